@@ -4,10 +4,10 @@
 
 ghost use Rattle.std.specs.Prelude.{◌<◌, ◌≤◌};
 ghost use Rattle.std.specs.Io.KnownBytes.{Keeps};
-ghost use Rattle.jb_program.specs.declared.streams.failure.Failure.{Failure};
+ghost use Rattle.jb_program.specs.declared.streams.error.ProgramError.{ProgramError};
 ghost use Rattle.jb_program.specs.declared.words.request.Request.{Request};
 ghost use Rattle.jb_program.specs.Answer.{IsAnswer};
-ghost use Rattle.jb_program.specs.Failures.{HasFailed, IsAsked, IsFailureTold};
+ghost use Rattle.jb_program.specs.Failures.{HasFailed, IsAsked, IsFailureReported};
 ghost use Rattle.jb_program.specs.ProcessWords.{process_words};
 
 use jb_program::perform;
@@ -23,7 +23,7 @@ mod stack;
 #[cfg(test)]
 mod tests;
 
-/// `perform`, which uses the stack from here on: in a frame of its own, since `main` runs before the stack is taken.
+/// `perform`, which uses the stack from here on. It has a separate frame, since `main` runs before the stack is taken.
 #[inline(never)]
 fn perform_apart<T: Threads + Wait + Sync, R: Read, W: Write, F: Write>(
     rt: &T,
@@ -36,7 +36,7 @@ fn perform_apart<T: Threads + Wait + Sync, R: Read, W: Write, F: Write>(
     ensures answered { result < 3 → (request : Request) × IsAsked (process_words args) request × IsAnswer request (R.remaining reader.old) (W.contents writer.old) (W.contents writer.new) result }
     ensures status { result ≤ 5 }
     ensures quiet { result < 3 → Keeps (F.contents fault_writer.old) (F.contents fault_writer.new) }
-    ensures failed { 3 ≤ result → (failure : Failure) × HasFailed (process_words args) (R.remaining reader.old) (W.contents writer.old) (W.contents writer.new) failure × IsFailureTold failure (F.contents fault_writer.old) (F.contents fault_writer.new) result }
+    ensures failed { 3 ≤ result → (failure : ProgramError) × HasFailed (process_words args) (R.remaining reader.old) (W.contents writer.old) (W.contents writer.new) failure × IsFailureReported failure (F.contents fault_writer.old) (F.contents fault_writer.new) result }
 {
     perform(rt, alloc, args, reader, writer, fault_writer)
 }

@@ -4,8 +4,8 @@
 //! program takes all of its stack first: later no heap and no thread can have that room.
 
 ghost use Rattle.std.specs.Prelude.{◌≡◌, ◌<◌, ◌≤◌, length, true, false, IfOk};
-ghost use Rattle.jb_program.specs.declared.streams.failure.Failure.TheVariants.{Memory};
-ghost use Rattle.jb_program.specs.Failures.{IsFailureTold};
+ghost use Rattle.jb_program.specs.declared.streams.error.ProgramError.TheVariants.{Memory};
+ghost use Rattle.jb_program.specs.Failures.{IsFailureReported};
 
 use jb_texts::write_whole;
 use std::alloc::Global;
@@ -19,7 +19,7 @@ const NEEDED: usize = 1_441_792;
 /// The smallest limit of a stack that has room for it. The process's arguments and environment take up to a quarter of a stack.
 const LEAST_LIMIT: u64 = 2_097_152;
 
-/// The limit of a resource that isn't limited, or of which the system tells none.
+/// The limit of a resource that isn't limited, or whose limit the system doesn't report.
 const UNLIMITED: u64 = u64::MAX;
 
 /// The limit in a line `NAME LIMIT ..` of this text.
@@ -84,7 +84,7 @@ pub fn is_taken(alloc: Global, stack_limit: u64, space_limit: u64) -> bool
 
 /// Reports that there is no memory, and gives the exit status.
 pub fn report_none<F: Write>(fault_writer: &mut F) -> u8
-    ensures { IsFailureTold Memory (F.contents fault_writer.old) (F.contents fault_writer.new) result }
+    ensures { IsFailureReported Memory (F.contents fault_writer.old) (F.contents fault_writer.new) result }
 {
     let _ = write_whole(b"no memory\n", fault_writer);
     4

@@ -1,4 +1,4 @@
-//! A job with a reader, a processor and a writer of its own: usage in, bills out, in a step over four threads.
+//! A job with a custom reader, processor and writer: usage in, bills out, in a step over four threads.
 //!
 //! `bills` reads lines `NAME,UNITS` on standard input, and writes lines `NAME,CENTS` on standard output. A record that has no bill is
 //! skipped, and standard error gives its number.

@@ -11,7 +11,7 @@ use jb_base::{ArtifactError, ClassId, PackedList};
 use std::alloc::{AllocError, Global};
 use std::sync::Arc;
 
-/// A reader of records of usage, with a place of its own. A record that has no bill can't be read.
+/// A reader of records of usage, with its own place. A record that has no bill can't be read.
 #[derive(Drop)]
 pub struct UsageReader {
     pub alloc: Global,

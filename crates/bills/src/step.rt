@@ -104,7 +104,7 @@ pub fn run<R: Threads + Wait + Sync>(
     over_desk::<Brand, R>(rt, alloc, blank, prepared, artifacts, reducer)
 }
 
-/// Runs it over a desk of its own, whose ledger has the name of `L`.
+/// Runs it over its own desk, whose ledger has the name of `L`.
 fn over_desk<L: Ledger + Send + Sync + 'static, R: Threads + Wait + Sync>(
     rt: &R,
     alloc: Global,

@@ -13,7 +13,7 @@ pub struct BillWriter {
 }
 
 impl BillWriter {
-    /// Puts one bill behind the others. Where there is no memory, nothing changes.
+    /// Puts one bill after the others. If there is no memory, nothing changes.
     fn append(&mut self, number: u64, bill: &Item) -> Result<(), ArtifactError>
         ensures { let old : Writer = record { written = self.old.bills; faults = λ _. Sound } in
             Appends result number bill.now old (record { written = self.new.bills; faults = λ _. Sound }) }

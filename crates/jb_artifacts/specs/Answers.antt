@@ -1,4 +1,4 @@
--- Words for what a call of an artifact answers. For a value that it answers std has `IfOk`.
+-- Properties of what a call of an artifact answers. For a value that it answers, std has `IfOk`.
 use Rattle.std.specs.Prelude.{Result, Ok, Err, ⊤}
 use Rattle.jb_base.specs.declared.class.ClassId.{ClassId}
 use Rattle.jb_base.specs.declared.artifact_error.ArtifactError.{ArtifactError}
@@ -10,7 +10,7 @@ IfFault (Ok x) P = ⊤
 IfFault (Err (Fault class)) P = P class
 IfFault (Err Memory) P = ⊤
 
--- if the call found no memory, this holds
+-- if the call ran out of memory, this holds
 abbrev pub IfNoMemory : {A : Type 0} → Result A ArtifactError → Type 0 → Type 0
 IfNoMemory (Ok x) P = ⊤
 IfNoMemory (Err (Fault class)) P = ⊤

@@ -34,6 +34,6 @@ used_at plans k = λ j. if j == k then used (plans j) else plans j
 abbrev pub with_plan : FaultTable → ℕ → FaultPlan → FaultTable
 with_plan plans k plan = λ j. if j == k then plan else plans j
 
--- the plans that a list of some records' plans stands for: each other record is sound
+-- the table of a list of plans for some records; every other record is sound
 abbrev pub plans_of : List (ℕ × FaultPlan) → FaultTable
 plans_of entries = λ k. unwrap_or (lookup (is_at (nat_cmp k)) entries) Sound

@@ -1,4 +1,4 @@
--- What an item reader means (Jakarta Batch 2.1, "ItemReader"; that records are numbered, and faults planned, is own choice).
+-- What an item reader means (Jakarta Batch 2.1, "ItemReader"). Own choices: records are numbered, and faults are planned.
 use Rattle.std.specs.Prelude.{ℕ, ◌+◌, ◌-◌, List, [], length, Option, slice_index_or}
 use Rattle.jb_base.specs.declared.class.ClassId.{ClassId}
 use Rattle.jb_artifacts.specs.Faults.{FaultTable, live, used_at}
@@ -26,6 +26,6 @@ opened r at = record r { place = at }
 abbrev pub read_fault : Reader → Option ClassId
 read_fault r = live (r.faults r.place)
 
--- the reader goes past the record, also where its read failed (own choice), and the record's plan goes on
+-- the reader passes the record, even if its read failed (own choice), and the record's plan advances by one call
 abbrev pub after_read : Reader → Reader
 after_read r = record r { place = r.place + 1; faults = used_at r.faults r.place }

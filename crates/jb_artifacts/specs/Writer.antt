@@ -1,4 +1,4 @@
--- What an item writer means (Jakarta Batch 2.1, "ItemWriter"; that it keeps a list, and that faults are planned, is own choice).
+-- What an item writer means (Jakarta Batch 2.1, "ItemWriter"). Own choices: it has a list, and faults are planned.
 use Rattle.std.specs.Prelude.{ℕ, ◌≡◌, ◌-◌, List, [], ◌∷◌, length, take, map, ◌++◌, Option, Some, None, not, find, take_while, Result, Ok, Err}
 use Rattle.jb_base.specs.declared.class.ClassId.{ClassId}
 use Rattle.jb_base.specs.declared.artifact_error.ArtifactError.{ArtifactError}
@@ -27,7 +27,7 @@ pub record Writer : Type 0 where
   pub written : Texts
   pub faults : FaultTable
 
--- the writer with its first `count` results alone
+-- the writer with only its first `count` results
 abbrev pub cut : Writer → ℕ → Writer
 cut w count = record w { written = take count w.written }
 
@@ -35,7 +35,7 @@ cut w count = record w { written = take count w.written }
 abbrev pub failing : FaultTable → Numbered → Option (ℕ × List ℕ)
 failing plans results = find (λ r. is_live plans r.0) results
 
--- the fault with which these results are answered, if one has a live one
+-- the fault of the failing result, if there is one
 abbrev pub fault_of : FaultTable → Option (ℕ × List ℕ) → Option ClassId
 fault_of plans None = None
 fault_of plans (Some r) = live (plans r.0)
@@ -56,11 +56,11 @@ after_write w results = record {
   faults = used_for w.faults (failing w.faults results);
 }
 
--- a write without memory: as many of the first results are appended as the list has grown, and no fault is used
+-- a write that ran out of memory: first results are appended until the list has `count`, and no fault is used
 abbrev pub torn_write : Writer → Numbered → (count : ℕ) → Writer
 torn_write w results count = record w { written = w.written ++ texts_of (take (count - length w.written) results) }
 
--- one result is appended, or its record's plan has a fault, or there was no memory and nothing changed
+-- one result is appended, or its record's plan has a fault, or memory ran out and nothing changed
 abbrev pub Appends : Result (Unit {0}) ArtifactError → (number : ℕ) → (text : List ℕ) → (old new : Writer) → Type 0
 Appends (Err Memory) number text old new = new ≡ old
 Appends (Err (Fault class)) number text old new = (live (old.faults number) ≡ Some class) × (new ≡ record old { faults = used_at old.faults number })

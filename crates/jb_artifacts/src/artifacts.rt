@@ -6,8 +6,8 @@ ghost use Rattle.jb_artifacts.specs.Meaning.{ArtifactsMeaning, Fits};
 use crate::interfaces::{Collector, ItemProcessor, ItemReader, ItemWriter};
 use jb_rules::Row;
 
-/// What a partition works with: its own reader, processor, writer and collector. A function that knows their types takes no box, and no
-/// proof of it speaks of boxes.
+/// What a partition works with: its own reader, processor, writer and collector. A function that knows their types needs
+/// no boxes, and neither do its proofs.
 #[derive(Drop)]
 pub struct ArtifactsOf<R, P, W, C> {
     pub reader: R,
@@ -24,7 +24,7 @@ pub type Artifacts = ArtifactsOf<
     Box<dyn Collector + Send + Drop>,
 >;
 
-/// A value that stands for the artifacts of a partition. Clauses name their meaning by it.
+/// A value that represents the artifacts of a partition. Contract clauses name their meaning through it.
 pub trait Meaning {
     ghost meaning: { Self → ArtifactsMeaning };
 }
@@ -44,7 +44,7 @@ impl<
 }
 
 impl Artifacts {
-    /// Whether they serve this row: the reader has its records, and the writer as many results as it committed.
+    /// Whether they fit this row: the reader has the row's records, and the writer has as many results as the row committed.
     pub fn fit(&self, row: &Row) -> bool
         ensures { let a = self.now in
             IsTrue result ↔ Fits (record {
@@ -63,7 +63,7 @@ impl Artifacts {
     }
 }
 
-/// Whether a reader of the records from `first` to `end - 1` and a writer of `count` results serve this row.
+/// Whether a reader of the records from `first` to `end - 1` and a writer of `count` results fit this row.
 pub fn fits_row(row: &Row, first: u64, end: u64, count: u64) -> bool
     ensures { IsTrue result ↔ (first ≤ row.now.lo) × (row.now.hi ≤ end) × (row.now.written ≤ count) }
 {

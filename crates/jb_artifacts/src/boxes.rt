@@ -1,4 +1,4 @@
-//! An artifact in a box is one: each call is handed on to what is in the box.
+//! A boxed artifact is an artifact: each call is passed on to what is in the box.
 
 use crate::interfaces::{Collector, ItemProcessor, ItemReader, ItemWriter};
 use crate::item::Item;

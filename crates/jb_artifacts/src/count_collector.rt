@@ -9,11 +9,10 @@ use crate::view::RowView;
 use itoa::write_digits;
 use std::alloc::{AllocError, Global};
 
-/// The room of a text: three numbers of twenty digits, two colons and the end.
+/// The room for a text: three numbers of twenty digits, two colons and the end.
 const ROOM: usize = 66;
 
-/// A collector whose text is the partition, the checkpoint and WRITE, as `0:2:2`, with `:end` behind it on the
-/// partition's last call.
+/// A collector whose text is the partition, the checkpoint and WRITE, as `0:2:2`. On the partition's last call, `:end` follows.
 #[derive(Drop)]
 pub struct CountCollector {
     alloc: Global,
@@ -38,7 +37,7 @@ impl Collector for CountCollector {
     }
 }
 
-/// Writes the text at the end of its room, and gives where it begins.
+/// Writes the text at the end of its room, and returns where it begins.
 fn write_counts(text: &mut [u8; ROOM], view: &RowView) -> usize
     ensures within { result ≤ 66 }
     ensures written { drop result text.new ≡ count_text view.now }
@@ -49,7 +48,7 @@ fn write_counts(text: &mut [u8; ROOM], view: &RowView) -> usize
     write_number(text, at, u64::from(view.partition))
 }
 
-/// Writes the end of a partition's last text, and gives where it begins.
+/// Writes the end of a partition's last text, and returns where it begins.
 fn write_end(text: &mut [u8; ROOM], last: bool) -> usize
     ensures within { (62 ≤ result) × (result ≤ 66) }
     ensures written { drop result text.new ≡ (if last then codes ":end" else []) }
@@ -61,7 +60,7 @@ fn write_end(text: &mut [u8; ROOM], last: bool) -> usize
     ROOM
 }
 
-/// Writes a colon and the number, which end at `end`, and gives where they begin.
+/// Writes a colon and the number, which end at `end`, and returns where they begin.
 fn write_colon(text: &mut [u8], end: usize, number: u64) -> usize
     requires { (21 ≤ end) × (end ≤ length text.old) }
     ensures begin { (result ≤ end) × (end ≤ result + 21) }
@@ -73,7 +72,7 @@ fn write_colon(text: &mut [u8], end: usize, number: u64) -> usize
     begin
 }
 
-/// Writes the number, which ends at `end`, and gives where it begins.
+/// Writes the number, which ends at `end`, and returns where it begins.
 fn write_number(text: &mut [u8], end: usize, number: u64) -> usize
     requires { (20 ≤ end) × (end ≤ length text.old) }
     ensures begin { (result ≤ end) × (end ≤ result + 20) }

@@ -1,11 +1,11 @@
-//! Where a record's plan stands among others.
+//! Where a record's plan is among others.
 
 ghost use Rattle.std.specs.Prelude.{IsTrue};
 ghost use Rattle.jb_artifacts.specs.inside.FaultPlaces.{DoNumbersRise, IsPlaceOf, IsSearched};
 
 use crate::faults::FaultPlan;
 
-/// Whether the entries before this place have smaller numbers, and no other has.
+/// Whether exactly the entries before this place have smaller numbers.
 fn is_place_of(number: u64, entries: &[(u64, FaultPlan)], place: usize) -> bool
     requires { DoNumbersRise entries.now }
     ensures { IsTrue result → IsPlaceOf number entries.now place }
@@ -19,7 +19,7 @@ fn is_place_of(number: u64, entries: &[(u64, FaultPlan)], place: usize) -> bool
     place == entries.len() || number <= entries[place].0
 }
 
-/// The place before which the entries have smaller numbers. It is looked for at `near` and behind it first, and then among all.
+/// The place with exactly the smaller numbers before it. `near` and the next place are tried first, and then all are searched.
 fn place_of(number: u64, entries: &[(u64, FaultPlan)], near: usize) -> usize
     requires { DoNumbersRise entries.now }
     ensures { IsPlaceOf number entries.now result }
@@ -33,7 +33,8 @@ fn place_of(number: u64, entries: &[(u64, FaultPlan)], near: usize) -> usize
     entries.partition_point(|entry| entry.0 < number)
 }
 
-/// The place of the record's plan, or where it would stand. It is looked for at `near` and behind it first, and then among all.
+/// The place of the record's plan, or the place where it would go. `near` and the next place are tried first, and then
+/// all are searched.
 pub fn search(number: u64, entries: &[(u64, FaultPlan)], near: usize) -> Result<usize, usize>
     requires { DoNumbersRise entries.now }
     ensures { IsSearched number entries.now result }

@@ -9,9 +9,9 @@ use jb_base::ClassId;
 use std::alloc::{AllocError, Global};
 use std::marker::Model;
 
-/// A fault plan for each record, by its number. A contract sees the table of those that were put in; each other record
-/// is sound. Where records come in order, a look-up takes a few steps, since it begins where the one before it ended, and
-/// otherwise time in proportion to the logarithm of the plans' number.
+/// A fault plan for each record, by its number. A contract sees the table of the plans that were put in; every other
+/// record is sound. A look-up begins where the one before it ended, so it takes a few steps if records come in order.
+/// Otherwise its time is in proportion to the logarithm of the number of plans.
 #[derive(Drop)]
 pub struct FaultPlans {
     // In the order of the records' numbers.
@@ -35,7 +35,7 @@ impl Model for FaultPlans {
 impl FaultPlans {
     ghost use Rattle.jb_artifacts.specs.declared.faults.FaultPlan.TheVariants.{Sound};
 
-    /// Each record is sound. Takes no memory.
+    /// No plans: each record is sound. Takes no memory.
     pub fn new(alloc: Global) -> FaultPlans
         ensures { plans_of result ≡ λ _. Sound }
     {
@@ -45,7 +45,7 @@ impl FaultPlans {
         }
     }
 
-    /// Gives the record this plan, in place of its plan so far.
+    /// Gives the record this plan, in place of the plan that it had.
     pub fn insert(&mut self, number: u64, plan: FaultPlan) -> Result<(), AllocError>
         ensures ok { OnOk result (plans_of self.new ≡ with_plan (plans_of self.old) number plan) }
         ensures err { OnErr result (plans_of self.new ≡ plans_of self.old) }
@@ -80,8 +80,8 @@ impl FaultPlans {
         }
     }
 
-    /// The class with which this call for the record fails, if it does. The record's plan goes on, and a call that does
-    /// not fail changes nothing.
+    /// The class with which this call for the record fails, if it does. The record's plan advances by one call. A call
+    /// that doesn't fail changes nothing.
     pub fn strike(&mut self, number: u64) -> Option<ClassId>
         ensures class { result ≡ live (plans_of self.old number) }
         ensures plans { plans_of self.new ≡ used_at (plans_of self.old) number }

@@ -56,7 +56,7 @@ impl FaultPlan {
         }
     }
 
-    /// The class with which this call fails, if it does. A shaky plan goes on to its next class.
+    /// The class with which this call fails, if it does. A shaky plan then moves to its next class.
     pub fn strike(&mut self) -> Option<ClassId>
         ensures class { result ≡ live self.old }
         ensures plan { self.new ≡ used self.old }

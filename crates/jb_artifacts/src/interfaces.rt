@@ -1,16 +1,16 @@
-//! The interfaces of the artifacts of a chunk step, after Jakarta Batch 2.1 ("ItemReader", "ItemProcessor",
-//! "ItemWriter", "Partition Collector"). What an artifact means is a ghost member of its interface; each call answers
-//! by that meaning, and its clause says what the meaning is afterwards.
+//! The interfaces of the artifacts of a chunk step, after Jakarta Batch 2.1 ("ItemReader", "ItemProcessor", "ItemWriter",
+//! "Partition Collector"). What an artifact means is a ghost member of its interface. Each call answers by that meaning,
+//! and its clause gives the meaning after the call.
 //!
-//! No function takes an allocator: an artifact keeps its own. That checkpoints are a record's number and a count of
-//! results, and that faults are planned for each record, is this project's choice.
+//! No function takes an allocator: an artifact has its own. This project's choices: a checkpoint is a record's number and
+//! a count of results, and faults are planned for each record.
 //!
-//! A fault that can't be foretold from the artifact's value, as a file's or a database's, has no answer here but `Memory`:
-//! what may fail so is read first, outside the step, and then served (docs/ARTIFACTS.md).
+//! A fault that the artifact's value doesn't determine, as one of a file or a database, has no answer here but `Memory`.
+//! Read such input first, outside the step, and then serve it (docs/YOUR-JOB.md).
 //!
-//! A call that answered a fault may be made again at once: a read after `open_at` of the same record, a process call with
-//! the same item, a write of the same results after `open_at` of the count before it. Its answer is that of the plan as it
-//! then stands.
+//! A call that answered a fault may be repeated at once: a read after `open_at` of the same record, a process call with
+//! the same item, a write of the same results after `open_at` of the count before it. It answers by the plan as it then
+//! is.
 
 ghost use Rattle.std.specs.Prelude.{◌≡◌, ◌≤◌, ◌<◌, ℕ, List, length, Some, None, slice_get, option_copied, IfOk, OnOk};
 ghost use Rattle.jb_artifacts.specs.declared.view.RowView.{RowView};
@@ -24,7 +24,7 @@ use crate::view::RowView;
 use jb_base::ArtifactError;
 use std::alloc::AllocError;
 
-/// A reader of records that are numbered from `first` to `end - 1`. It stands at the record that is read next.
+/// A reader of records that are numbered from `first` to `end - 1`. Its place is the record that it reads next.
 pub trait ItemReader: Send {
     ghost reader: { Self → Reader };
 
@@ -42,14 +42,14 @@ pub trait ItemReader: Send {
         ensures from { (reader self.now).first ≤ result }
         ensures to { result ≤ reader_end (reader self.now) };
 
-    /// Goes to the record of this number, or to the end.
+    /// Moves to the record of this number, or to the end.
     fn open_at(&mut self, at: u64)
         requires from { (reader self.old).first ≤ at }
         requires to { at ≤ reader_end (reader self.old) }
         ensures { reader self.new ≡ opened (reader self.old) at };
 
-    /// The next record, or the fault of its plan; the reader goes past it in both cases. At the end there is none, and
-    /// nothing changes. Nor does it where there is no memory.
+    /// The next record, or the fault of its plan; the reader passes the record in both cases. At the end the answer is
+    /// None, and nothing changes. If memory runs out, nothing changes either.
     fn read_item(&mut self) -> Result<Option<Item>, ArtifactError>
         ensures ended { (reader self.old).place ≡ reader_end (reader self.old) → (result ≡ Ok None) × (reader self.new ≡ reader self.old) }
         ensures answered { let r = reader self.old in
@@ -59,12 +59,11 @@ pub trait ItemReader: Send {
         ensures no_memory { IfNoMemory result (reader self.new ≡ reader self.old) };
 }
 
-/// A processor: for each record's number and item it has one answer, the result, or none, which filters the item.
+/// A processor. It has one answer for each record's number and item: the result, or None, which filters the item.
 pub trait ItemProcessor: Send {
     ghost processor: { Self → Processor };
 
-    /// The answer for this item of this record, or the fault of the record's plan. Where there is no memory, nothing
-    /// changes.
+    /// The answer for this item of this record, or the fault of the record's plan. If memory runs out, nothing changes.
     fn process_item(&mut self, number: u64, item: &[u8]) -> Result<Option<Item>, ArtifactError>
         ensures answered { let p = processor self.old in
             IfOk result (λ answer. (process_fault p number ≡ None) × (answer ≡ p.answer number item.now) × (processor self.new ≡ after_process p number)) }
@@ -73,7 +72,7 @@ pub trait ItemProcessor: Send {
         ensures no_memory { IfNoMemory result (processor self.new ≡ processor self.old) };
 }
 
-/// A writer of results. It keeps the list of those that were written.
+/// A writer of results. It has the list of those that were written.
 pub trait ItemWriter: Send {
     ghost writer: { Self → Writer };
 
@@ -86,9 +85,9 @@ pub trait ItemWriter: Send {
         requires { count ≤ length (writer self.old).written }
         ensures { writer self.new ≡ cut (writer self.old) count };
 
-    /// Appends the results, each given with its record's number. Where the plan of such a record has a fault, only the
-    /// results before the first such record are appended, and that fault is answered. Where there is no memory, some of
-    /// the first results are appended, and no plan changes.
+    /// Appends the results, each given with its record's number. If the plan of such a record has a fault, only the
+    /// results before the first such record are appended, and that fault is answered. If memory runs out, some of the
+    /// first results are appended, and no plan changes.
     fn write_items(&mut self, results: &[(u64, Item)]) -> Result<(), ArtifactError>
         ensures written { let w = writer self.old in
             OnOk result ((write_fault w results.now ≡ None) × (writer self.new ≡ after_write w results.now)) }
@@ -97,12 +96,12 @@ pub trait ItemWriter: Send {
         ensures no_memory { let w = writer self.old in
             IfNoMemory result (writer self.new ≡ torn_write w results.now (length (writer self.new).written)) };
 
-    /// The result at this place of the list, the first being 0, or none past its end.
+    /// The result at this place of the list, the first being 0, or None past its end.
     fn item_at(&self, i: u64) -> Option<&[u8]>
         ensures { option_copied result ≡ slice_get (writer self.now).written i };
 }
 
-/// A collector: for each view of a partition it has one text.
+/// A collector: it has one text for each view of a partition.
 pub trait Collector: Send {
     ghost collected: { Self → RowView → List ℕ };
 

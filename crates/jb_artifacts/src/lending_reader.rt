@@ -18,13 +18,13 @@ pub trait LendingReader: ItemReader {
             IfFault result (λ class. (read_fault r ≡ Some class) × (Self.reader self.new ≡ after_read r)) }
         ensures no_memory { IfNoMemory result (Self.reader self.new ≡ Self.reader self.old) };
 
-    /// The record of this number, of those that are there; past the end an empty one, and before the first the first.
+    /// The record of this number. Past the end it is an empty one, and before the first it is the first.
     fn record(&self, number: u64) -> &[u8]
         ensures { result.now ≡ record_at (Self.reader self.now) number };
 }
 
-/// The record of this number in a table whose first record has the number `first`; past the end an empty one, and before the first the
-/// first.
+/// The record of this number in a table whose first record has the number `first`. Past the end it is an empty one, and
+/// before the first it is the first.
 pub fn record_of(records: &PackedList, first: u64, number: u64) -> &[u8]
     ensures { result.now ≡ slice_index_or records.now (number - first) [] }
 {

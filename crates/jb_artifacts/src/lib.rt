@@ -1,7 +1,7 @@
 //! The artifacts of a chunk step: what reads, processes, writes and reports on the records of a partition.
 //!
 //! - `interfaces`: what an item reader, an item processor, an item writer and a collector answer.
-//! - `artifacts`: the four of a partition together, of known types or in boxes; `boxes`: an artifact in a box is one.
+//! - `artifacts`: the four of a partition together, of known types or in boxes; `boxes`: a boxed artifact is an artifact.
 //! - `item`, `view`: what is read and written, and what a collector sees.
 //! - `lending_reader`, `packing_processor`, `packed_writer`, `packed_results`: the same interfaces, with no copy and no
 //!   allocation for a record; `packed_artifacts`: the four of a partition that have them.

@@ -1,4 +1,4 @@
-//! A writer that keeps what is written in a list.
+//! A writer that puts what is written in a list.
 
 ghost use Rattle.std.specs.Prelude.{◌≡◌};
 ghost use Rattle.jb_artifacts.specs.Faults.{plans_of};

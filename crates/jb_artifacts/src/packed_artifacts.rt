@@ -6,7 +6,7 @@ use crate::lending_reader::LendingReader;
 use crate::packed_writer::PackedWriter;
 use crate::packing_processor::PackingProcessor;
 
-/// The artifacts of a partition whose reader lends its records, and the results of whose chunks stand in one buffer.
+/// The artifacts of a partition whose reader lends its records. The results of each of its chunks are in one buffer.
 #[derive(Drop)]
 pub struct PackedArtifacts<R, P, W, C> {
     pub inner: ArtifactsOf<R, P, W, C>,

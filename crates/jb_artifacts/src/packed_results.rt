@@ -7,7 +7,7 @@ use jb_base::PackedList;
 use std::alloc::{AllocError, Global};
 use std::marker::Model;
 
-/// Results, each with the number of its record. A contract sees their list. A result more takes no allocation of its own.
+/// Results, each with the number of its record. A contract sees their list. One more result needs no separate allocation.
 #[derive(Drop)]
 pub struct PackedResults {
     numbers: Vec<u64>,
@@ -56,7 +56,7 @@ impl PackedResults {
         self.numbers.len()
     }
 
-    /// Whether there is none.
+    /// Whether there are no results.
     pub fn is_empty(&self) -> bool
         ensures { result ≡ (length self.now == 0) }
     {
@@ -86,7 +86,7 @@ impl PackedResults {
         &self.texts
     }
 
-    /// Puts the result of this record behind the others. Without memory they stay as they were.
+    /// Appends the result of this record. If memory runs out, the results stay as they were.
     pub fn push(&mut self, number: u64, text: &[u8]) -> Result<(), AllocError>
         ensures ok { OnOk result (self.new ≡ self.old ++ (number, text.now) ∷ []) }
         ensures err { OnErr result (self.new ≡ self.old) }
@@ -97,8 +97,7 @@ impl PackedResults {
         Ok(())
     }
 
-    /// Puts one result of this record behind the others: the first part with the second behind it. Without memory they
-    /// stay as they were.
+    /// Appends one result of this record: the first part followed by the second. If memory runs out, the results stay as they were.
     pub fn push_joined(
         &mut self,
         number: u64,
@@ -114,7 +113,7 @@ impl PackedResults {
         Ok(())
     }
 
-    /// Lets all results go, and keeps their memory for the next.
+    /// Removes all results, and keeps their memory for the next ones.
     pub fn clear(&mut self)
         ensures { self.new ≡ [] }
     {

@@ -10,7 +10,7 @@ use jb_base::ArtifactError;
 
 /// A writer of packed results.
 pub trait PackedWriter: ItemWriter {
-    /// Appends the results as `write_items` does. They are lent, so that a write can be made again.
+    /// Appends the results as `write_items` does. They are lent, so the write can be repeated.
     fn write_packed(&mut self, results: &PackedResults) -> Result<(), ArtifactError>
         ensures written { let w = Self.writer self.old in
             OnOk result ((write_fault w results.now ≡ None) × (Self.writer self.new ≡ after_write w results.now)) }

@@ -11,8 +11,8 @@ use jb_base::ArtifactError;
 
 /// A processor that needs no allocation for a result.
 pub trait PackingProcessor: ItemProcessor {
-    /// Processes the item as `process_item` does, and puts the result behind the others: true, or false where the item is
-    /// filtered. After a fault, and without memory, the results are as they were.
+    /// Processes the item as `process_item` does, and appends the result: true, or false if the item is filtered. After a
+    /// fault, or if memory runs out, the results are as they were.
     fn pack_item(
         &mut self,
         number: u64,

@@ -12,8 +12,8 @@ use crate::packing_processor::PackingProcessor;
 use jb_base::ArtifactError;
 use std::alloc::{AllocError, Global};
 
-/// A processor that puts a prefix before each item, and filters the items that begin with the drop text, where there is
-/// one. It has a fault plan for the processing of each record.
+/// A processor that puts a prefix before each item. If it has a drop text, it filters the items that begin with it. It
+/// has a fault plan for the processing of each record.
 #[derive(Drop)]
 pub struct PrefixProcessor {
     alloc: Global,
@@ -75,7 +75,7 @@ impl PackingProcessor for PrefixProcessor {
     }
 }
 
-/// Whether the item begins with the drop text, where there is one.
+/// Whether the item begins with the drop text, if there is one.
 fn is_dropped(dropped: &Option<Item>, item: &[u8]) -> bool
     ensures { result ≡ begins_with dropped.now item.now }
 {
@@ -85,7 +85,7 @@ fn is_dropped(dropped: &Option<Item>, item: &[u8]) -> bool
     }
 }
 
-/// The prefix with the text behind it.
+/// The prefix followed by the text.
 fn joined(alloc: Global, prefix: &[u8], text: &[u8]) -> Result<Item, AllocError>
     ensures { IfOk result (λ item. item ≡ prefix.now ++ text.now) }
 {

@@ -25,8 +25,8 @@ pub struct TableReader {
 }
 
 impl TableReader {
-    /// A reader of these records, the first of which has the number `first`. It stands at the first. Their numbers are to fit,
-    /// as they do from 0 on. Takes no memory.
+    /// A reader of these records, the first of which has the number `first`. It begins at the first. Where
+    /// `first` isn't 0, the number after the last one must fit in a `u64`. Takes no memory.
     pub fn new(alloc: Global, first: u64, records: PackedList, faults: FaultPlans) -> TableReader
         requires numbered { 0 < first → first + length records < 2 ^ 64 }
         ensures { ⟦<TableReader as ItemReader>⟧.reader result

@@ -13,7 +13,7 @@ pub struct RowView {
     pub hi: u64,
     /// Its checkpoint: the number of the next record.
     pub at: u64,
-    /// Its counts, those of the chunk among them.
+    /// Its counts, including those of the chunk.
     pub counts: Counts,
     /// Whether this is the last call for the partition.
     pub last: bool,

@@ -13,7 +13,7 @@ pub data Cause (F : Type 0) : Type 0 where
   of_fault : F → Cause F
   never : Cause F
 
--- the same of a call that takes no memory, so that none ran out
+-- the same for a call that takes no memory, so memory can't run out
 abbrev pub with_memory : {F : Type 0} → Cause F → Cause F
 with_memory no_memory = never
 with_memory (of_fault f) = of_fault f

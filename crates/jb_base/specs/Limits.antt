@@ -1,5 +1,5 @@
--- The limits of all crates, each of them an own choice and a number that stands nowhere else: other definitions and the
--- contracts cite it from here, and the code's constants are proved equal to it.
+-- The limits of all crates, each of them an own choice. Definitions and contracts take each number from here alone, and
+-- the code's constants are proved equal to it.
 use Rattle.std.specs.Prelude.{ℕ}
 
 -- ---- a job record
@@ -12,7 +12,7 @@ max_steps = 16
 abbrev pub max_name : ℕ
 max_name = 64
 
--- fault classes that a job declares, and texts of `exception-classes`, repeated ones too
+-- fault classes that a job declares: texts of `exception-classes`, repeated ones included
 abbrev pub max_classes : ℕ
 max_classes = 64
 
@@ -40,7 +40,7 @@ max_retry_limit = 100000
 abbrev pub default_retry_limit : ℕ
 default_retry_limit = 1000
 
--- even partitions, threads and ranges that a plan may ask for, however many of them a step takes
+-- even partitions, threads and ranges that a plan may ask for; a step may take fewer of them
 abbrev pub max_partitions_asked : ℕ
 max_partitions_asked = 4096
 
@@ -88,13 +88,13 @@ max_chunks = 10000000
 abbrev pub max_events : ℕ
 max_events = 1000000000
 
--- parts of the ledger that a desk gives out, one for each commit that is on its way
+-- parts of the ledger that a desk hands out, one for each commit in progress
 abbrev pub max_parts : ℕ
 max_parts = 1000000000000
 
 -- ---- the command line
 
--- rounds that a line may ask for
+-- rounds that a command line may ask for
 abbrev pub max_rounds : ℕ
 max_rounds = 1000000000
 
@@ -104,7 +104,7 @@ max_rounds = 1000000000
 abbrev pub max_record : ℕ
 max_record = 4096
 
--- bytes of a prefix, and of the beginning of the items that are filtered
+-- bytes of a prefix, and of the text with which filtered items begin
 abbrev pub max_affix : ℕ
 max_affix = 64
 

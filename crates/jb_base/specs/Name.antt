@@ -1,4 +1,4 @@
--- What a name keeps.
+-- The invariant of a name.
 use Rattle.std.specs.Prelude.{ℕ, ◌≤◌, List, length}
 use Rattle.jb_base.specs.Limits.{max_name}
 

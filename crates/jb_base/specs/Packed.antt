@@ -1,12 +1,12 @@
--- Byte strings that stand one after another in one buffer.
+-- Byte strings, one after another in one buffer.
 use Rattle.std.specs.Prelude.{ℕ, zero, suc, ◌≡◌, ◌≤◌, List, [], ◌∷◌, slice_range}
 
--- the strings whose places end at `ends`, the first of which begins at `from`
+-- the strings that end at `ends`; the first one begins at `from`
 abbrev pub strings_from : (from : ℕ) → (ends bytes : List ℕ) → List (List ℕ)
 strings_from from [] bytes = []
 strings_from from (end ∷ ends) bytes = slice_range bytes from end ∷ strings_from end ends bytes
 
--- from `from` on the ends do not fall, and the last place ends at `last`
+-- no end is below the one before it, beginning with `from`, and the last one is `last`
 abbrev pub EndAt : (from : ℕ) → (ends : List ℕ) → (last : ℕ) → Type 0
 EndAt from [] last = from ≡ last
 EndAt from (end ∷ ends) last = (from ≤ end) × EndAt end ends last

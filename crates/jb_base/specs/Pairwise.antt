@@ -1,7 +1,7 @@
--- Two lists of one length, seen place by place.
+-- Two lists of one length, compared place by place.
 use Rattle.std.specs.Prelude.{List, [], ◌∷◌}
 
--- the lists are as long as one another, and each member stands in this relation to the one at its place
+-- the lists have one length, and this relation holds between the two members at each place
 abbrev pub Pairwise : {A B : Type 0} → (A → B → Type 0) → List A → List B → Type 0
 Pairwise R [] [] = Unit {0}
 Pairwise R [] (y ∷ ys) = ⊥

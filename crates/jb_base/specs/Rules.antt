@@ -1,4 +1,4 @@
--- What contracts see of the rules of skipping and retrying: a plain record, whose ranges the type keeps.
+-- What contracts see of the rules of skipping and retrying: a plain record. The type keeps its values in range.
 use Rattle.std.specs.Prelude.{ℕ, Option}
 
 pub record RulesRecord : Type 0 where

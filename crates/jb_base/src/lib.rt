@@ -1,4 +1,4 @@
-//! What all crates stand on, and nothing of jobs: limits, ranges, fault classes, rules, names, texts and packed lists.
+//! What all crates build on, and nothing about jobs: limits, ranges, fault classes, rules, names, texts and packed lists.
 //!
 //! - `limits`: each limit of the code.
 //! - `range`: ranges of records.

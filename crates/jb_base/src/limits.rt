@@ -1,4 +1,4 @@
-//! The limits as the code has them. Definitions and contracts have them as numbers, in `specs/Limits`.
+//! The limits as constants of the code. Definitions and contracts have them as numbers, in `specs/Limits`.
 
 ghost use Rattle.std.specs.Prelude.{◌≡◌};
 ghost use Rattle.jb_base.specs.Limits.{max_steps, max_name, max_classes, max_class_names, max_item_count, default_item_count, max_skip_limit, max_retry_limit, default_retry_limit, max_partitions_asked, max_threads_asked, max_ranges, max_records, max_partitions, max_threads, max_rollbacks, max_in_place, max_load_partitions, max_chunks, max_events, max_parts, max_rounds, max_record, max_affix, max_entries, max_entry_classes, max_place};
@@ -9,7 +9,7 @@ pub const MAX_STEPS: usize = 16;
 /// The most bytes of the name of a job, of a step or of a fault class.
 pub const MAX_NAME: usize = 64;
 
-/// The most fault classes that a job declares, repeated ones too.
+/// The most fault classes that a job declares, repeated ones included.
 pub const MAX_CLASSES: usize = 64;
 
 /// The most names of an include or exclude list.
@@ -45,7 +45,7 @@ pub const MAX_RECORDS: u64 = 10_000_000;
 /// The most partitions of a step.
 pub const MAX_PARTITIONS: usize = 1_024;
 
-/// The most threads that a step uses, however many its plan asks for, and the most of a load.
+/// The most threads that a step uses, however many its plan asks for, and the most threads of a load.
 pub const MAX_THREADS: u32 = 64;
 
 /// The most rollbacks of a partition, over all restarts.
@@ -63,7 +63,7 @@ pub const MAX_CHUNKS: u64 = 10_000_000;
 /// The most events of a history, with the places that are reserved for outcomes.
 pub const MAX_EVENTS: usize = 1_000_000_000;
 
-/// The parts of the ledger of a desk's commits: as many commits can be on their way at once.
+/// The parts of the ledger of a desk's commits: as many commits can be in progress at once.
 pub const MAX_PARTS: u64 = 1_000_000_000_000;
 
 /// The most rounds that a command line may ask for.
@@ -72,7 +72,7 @@ pub const MAX_ROUNDS: u64 = 1_000_000_000;
 /// The most bytes of a record.
 pub const MAX_RECORD: usize = 4_096;
 
-/// The most bytes of a prefix, and of the beginning of the items that are filtered.
+/// The most bytes of a prefix, and of the text with which filtered items begin.
 pub const MAX_AFFIX: usize = 64;
 
 /// The most entries of a list of faults.
@@ -84,7 +84,7 @@ pub const MAX_ENTRY_CLASSES: usize = 1_000;
 /// The largest number of a lane or of a partition in a document.
 pub const MAX_PLACE: u64 = 4_294_967_295;
 
-/// The law of the limits: each constant is the number that the definitions have.
+/// The law of the limits: each constant equals the number in the definitions.
 pub fn limits_are_as_defined()
     ensures steps { MAX_STEPS ≡ max_steps }
     ensures name { MAX_NAME ≡ max_name }

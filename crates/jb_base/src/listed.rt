@@ -2,7 +2,7 @@
 
 use std::marker::Model;
 
-/// A list in the memory of a `Vec`. Contracts see the list, and not how much room it has.
+/// A list in the memory of a `Vec`. Contracts see the list, not its capacity.
 #[derive(Clone, Debug, Drop)]
 pub struct Listed<T> {
     items: Vec<T>,
@@ -19,7 +19,7 @@ impl<T> Model for Listed<T> {
 impl<T> Listed<T> {
     ghost use Rattle.std.specs.Prelude.{◌≡◌};
 
-    /// The list of these items, whose memory it keeps.
+    /// The list of these items. It takes over their memory.
     pub fn new(items: Vec<T>) -> Listed<T>
         ensures { result ≡ items.items }
     {

@@ -23,7 +23,7 @@ impl Name {
     ghost use Rattle.std.specs.Prelude.{◌≡◌, string_bytes};
     ghost use Rattle.jb_base.specs.Name.{IsName};
 
-    /// The name of a string of 1 to 64 bytes, whose memory it keeps.
+    /// The name of a string of 1 to 64 bytes. It takes over the string's memory.
     pub fn new(name: String) -> Name
         requires { IsName (string_bytes name) }
         ensures { result ≡ string_bytes name }

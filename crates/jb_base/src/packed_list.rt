@@ -8,8 +8,8 @@ ghost use Rattle.jb_base.specs.Packed.{start_of};
 use std::alloc::{AllocError, Global};
 use std::marker::Model;
 
-/// Byte strings, one after another in one buffer, with the place where each ends. A contract sees their list. A string
-/// more takes no allocation of its own: the buffer and the list of ends grow by doubling.
+/// Byte strings, one after another in one buffer, with the place where each ends. A contract sees their list. One more
+/// string needs no separate allocation: the buffer and the list of ends grow by doubling.
 #[derive(Drop)]
 pub struct PackedList {
     bytes: Vec<u8>,
@@ -55,7 +55,7 @@ impl PackedList {
         self.ends.len()
     }
 
-    /// Whether there is none.
+    /// Whether the list is empty.
     #[tactic(auto, using(crate::proofs::Packed::length_strings))]
     pub fn is_empty(&self) -> bool
         ensures { result ≡ (length self.now == 0) }
@@ -63,7 +63,7 @@ impl PackedList {
         self.ends.is_empty()
     }
 
-    /// Whether each byte of each string is below 128. One look at the buffer, however many strings there are.
+    /// Whether each byte of each string is below 128. The buffer is read once, however many strings there are.
     #[tactic(auto, using(crate::proofs::Ascii::of_strings))]
     pub fn is_ascii(&self) -> bool
         ensures cases { MatchBool result (All IsAscii self.now) (¬ (All IsAscii self.now)) }
@@ -83,7 +83,7 @@ impl PackedList {
         )
     }
 
-    /// The string of this index, or none past the end.
+    /// The string of this index, or None past the end.
     pub fn get(&self, index: usize) -> Option<&[u8]>
         ensures { option_copied result ≡ slice_get self.now index }
     {
@@ -94,7 +94,7 @@ impl PackedList {
         }
     }
 
-    /// Puts a copy of the string behind the others. Without memory the list stays as it was.
+    /// Appends a copy of the string. If memory runs out, the list stays as it was.
     pub fn push(&mut self, string: &[u8]) -> Result<(), AllocError>
         ensures ok { OnOk result (self.new ≡ self.old ++ string.now ∷ []) }
         ensures err { OnErr result (self.new ≡ self.old) }
@@ -105,8 +105,7 @@ impl PackedList {
         Ok(())
     }
 
-    /// Puts one string behind the others: the first part with the second behind it. Without memory the list stays as it
-    /// was.
+    /// Appends one string: the first part followed by the second. If memory runs out, the list stays as it was.
     pub fn push_joined(&mut self, first: &[u8], second: &[u8]) -> Result<(), AllocError>
         ensures ok { OnOk result (self.new ≡ self.old ++ (first.now ++ second.now) ∷ []) }
         ensures err { OnErr result (self.new ≡ self.old) }
@@ -117,7 +116,7 @@ impl PackedList {
         Ok(())
     }
 
-    /// Puts copies of the other list's strings behind these. Without memory the list stays as it was.
+    /// Appends copies of the other list's strings. If memory runs out, the list stays as it was.
     pub fn append(&mut self, other: &PackedList) -> Result<(), AllocError>
         ensures ok { OnOk result (self.new ≡ self.old ++ other.now) }
         ensures err { OnErr result (self.new ≡ self.old) }
@@ -129,7 +128,7 @@ impl PackedList {
         Ok(())
     }
 
-    /// Keeps the first strings alone, as many as `count`. The memory of the others is kept for later ones.
+    /// Keeps only the first `count` strings, or all if there are fewer. The memory of the others stays for later strings.
     pub fn truncate(&mut self, count: usize)
         ensures { self.new ≡ take count self.old }
     {
@@ -153,7 +152,7 @@ impl PackedList {
     }
 }
 
-/// Where the string of this index begins; behind the last string, where the buffer ends.
+/// Where the string of this index begins. One past the last index, it is where the buffer ends.
 fn start_of(ends: &[usize], index: usize) -> usize
     requires { index ≤ length ends.now }
     ensures { result ≡ start_of 0 ends.now index }
@@ -199,7 +198,7 @@ fn lowered(alloc: Global, ends: &[usize], base: usize) -> Result<Vec<usize>, All
     Ok(lowered)
 }
 
-/// Appends both, or, without memory, nothing.
+/// Appends both, or nothing if memory runs out.
 fn append_both(bytes: &mut Vec<u8>, first: &[u8], second: &[u8]) -> Result<(), AllocError>
     ensures ok { OnOk result (bytes.new.items ≡ bytes.old.items ++ (first.now ++ second.now)) }
     ensures err { OnErr result (bytes.new.items ≡ bytes.old.items) }

@@ -12,10 +12,9 @@ pub struct Rules {
     pub skippable: u64,
     /// The classes of Jakarta's `retryable-exception-classes`.
     pub retryable: u64,
-    /// The classes of Jakarta's `no-rollback-exception-classes`: a retry for them repeats the call that failed, and rolls
-    /// nothing back.
+    /// The classes of Jakarta's `no-rollback-exception-classes`. A retry for them repeats the failed call, and rolls nothing back.
     pub no_rollback: u64,
-    /// How many faults are skipped, at most 10,000,000. With none there is no limit.
+    /// How many faults are skipped, at most 10,000,000. None means no limit.
     pub skip_limit: Option<u64>,
     /// How many retries there may be, at most 100,000.
     pub retry_limit: u64,

@@ -2,7 +2,7 @@
 
 use std::marker::Model;
 
-/// A text. Contracts see its bytes, and not how much room it has.
+/// A text. Contracts see its bytes, not its capacity.
 #[derive(Debug, Drop)]
 pub struct Text {
     text: String,
@@ -19,7 +19,7 @@ impl Model for Text {
 impl Text {
     ghost use Rattle.std.specs.Prelude.{◌≡◌, string_bytes};
 
-    /// The text of a string, whose memory it keeps.
+    /// The text of a string. It takes over the string's memory.
     pub fn new(text: String) -> Text
         ensures { result ≡ string_bytes text }
     {

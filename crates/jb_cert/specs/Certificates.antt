@@ -31,8 +31,8 @@ abbrev pub longest_or_full : Option ℕ → Certificate
 longest_or_full (Some p) = Longest p
 longest_or_full None = FullLoad
 
--- the certificate of the bound (own choice): Nothing where there is no chunk, else Longest of the first partition of as
--- many chunks as the bound, else FullLoad
+-- the certificate of the bound (own choice): Nothing if there is no chunk; else Longest of the first partition with as
+-- many chunks as the bound, if there is one; else FullLoad
 abbrev pub bound_certificate : List ℕ → ℕ → Certificate
 bound_certificate counts threads =
     if sum counts == 0 then Nothing

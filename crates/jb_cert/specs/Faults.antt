@@ -15,7 +15,7 @@ slots_in_all p rounds = sum_by (slots_of p) rounds
 -- A slot in its place of a plan.
 pub record PlacedSlot : Type 0 where
   pub slot : Slot
-  -- how many slots of its partition stand in the rounds before its own
+  -- how many slots of its partition are in the rounds before its own
   pub ran : ℕ
   -- the slots before it in its own round
   pub before : List Slot
@@ -41,20 +41,20 @@ slot_fault counts threads placed =
     else (if list_any (collides placed.slot) placed.before then Some TwiceInRound
     else (if placed.slot.chunk == placed.ran then None else Some OutOfOrder)))
 
--- the slots of the rest of a round in their places, behind these slots of it, where so many slots of each partition stand
--- in the rounds before it
+-- the slots of the rest of a round in their places, after these slots of it; the rounds before it have so many slots of
+-- each partition
 abbrev pub placed_in_round : (ℕ → ℕ) → List Slot → List Slot → List PlacedSlot
 placed_in_round ran before [] = []
 placed_in_round ran before (slot ∷ rest) =
     record { slot = slot; ran = ran slot.partition; before = before } ∷ placed_in_round ran (before ++ slot ∷ []) rest
 
--- the slots of the rest of a plan in their places, behind these rounds of it
+-- the slots of the rest of a plan in their places, after these rounds of it
 abbrev pub placed_in_plan : List (List Slot) → List (List Slot) → List PlacedSlot
 placed_in_plan before [] = []
 placed_in_plan before (round ∷ rest) =
     placed_in_round (λ p. slots_in_all p before) [] round ++ placed_in_plan (before ++ round ∷ []) rest
 
--- where each slot is good, what is wrong with the whole: a partition with other than so many slots as it has chunks
+-- what is wrong with the whole, if each slot is good: a partition has other than so many slots as it has chunks
 abbrev pub missing_fault : List ℕ → (ℕ → ℕ) → Option PlanFault
 missing_fault counts ran =
     if list_all (λ p. ran p == slice_index counts p) (range_with_len 0 (length counts)) then None else Some Missing

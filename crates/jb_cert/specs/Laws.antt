@@ -10,7 +10,7 @@ use Rattle.jb_cert.specs.WrapAround.{first_place, partition_at_place, slot_of, l
 
 -- THE BOUND
 
--- McNaughton's bound is the number of sets of a least lawful plan
+-- McNaughton's bound is the number of sets of a shortest valid plan
 abbrev pub BoundIsLeast : Type 0
 BoundIsLeast = (counts : List ℕ) (threads : ℕ) → 1 ≤ threads → IsLeastNumber counts threads (mcnaughton counts threads)
 
@@ -22,7 +22,7 @@ BoundIsCertified =
 
 -- CERTIFICATES
 
--- where a certificate holds, no lawful plan has fewer sets
+-- if a certificate holds, no valid plan has fewer sets
 abbrev pub CertifiedIsShortest : Type 0
 CertifiedIsShortest =
     (counts : List ℕ) (threads rounds : ℕ) (certificate : Certificate)
@@ -47,7 +47,7 @@ LeastPlanMeans =
 abbrev pub WrapAroundIsBound : Type 0
 WrapAroundIsBound = (counts : List ℕ) (threads : ℕ) → length (wrapped_rounds counts threads) ≡ mcnaughton counts threads
 
--- and stands for a least lawful plan
+-- and its sets are a shortest valid plan
 abbrev pub WrapAroundIsLeast : Type 0
 WrapAroundIsLeast = (counts : List ℕ) (threads : ℕ) → 1 ≤ threads → StandsForLeast counts threads (wrapped_rounds counts threads)
 
@@ -57,7 +57,7 @@ SlotsAreKnown =
     (counts : List ℕ) (threads r l p j : ℕ) → slot_of counts threads r l ≡ Some (p, j)
     → (p < length counts) × (j < slice_index counts p)
 
--- where the slots of a round are looked through for a lane's, it is what the lane has there
+-- a search of a round's slots by lane finds what the lane has there
 abbrev pub LanesAreFound : Type 0
 LanesAreFound =
     (counts : List ℕ) (threads r l : ℕ) → l < threads

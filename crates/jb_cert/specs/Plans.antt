@@ -1,4 +1,4 @@
--- What a plan of slots stands for: lanes are only names for the places of a round.
+-- What a plan of slots means: lanes are only names for the places of a round.
 use Rattle.std.specs.Prelude.{◌≢◌, ℕ, ◌<◌, List, length, map, All, AllPairs}
 use Rattle.jb_cert.specs.declared.plans.Slot.{Slot}
 use Rattle.jb_cert.specs.declared.plans.Plan.{Plan}
@@ -16,13 +16,13 @@ slot_pair slot = (slot.partition, slot.chunk)
 abbrev pub sets_of : List (List Slot) → List (List Pair)
 sets_of rounds = map (map slot_pair) rounds
 
--- its lanes are below the number of threads, none comes twice in a round, and its sets are lawful
+-- its lanes are below the number of threads, none comes twice in a round, and its sets are a valid plan
 pub record StandsForLawful (counts : List ℕ) (threads : ℕ) (rounds : List (List Slot)) : Type 0 where
   pub lanes : All (All (λ slot. slot.lane < threads)) rounds
   pub lanes_apart : All (AllPairs (λ a b. a.lane ≢ b.lane)) rounds
   pub lawful : IsLawful counts threads (sets_of rounds)
 
--- a lawful plan, and no lawful one is shorter
+-- a valid plan, and no valid one is shorter
 pub record StandsForLeast (counts : List ℕ) (threads : ℕ) (rounds : List (List Slot)) : Type 0 where
   pub lawful : StandsForLawful counts threads rounds
   pub least : NoneIsShorter counts threads (length rounds)

@@ -1,5 +1,5 @@
--- McNaughton's wrap-around of 1959: the chunks of all partitions are laid end to end in a row, partition after partition,
--- and the row is cut into lanes of as many places as the plan has rounds. Its sets are those of these slots.
+-- McNaughton's wrap-around of 1959. The chunks of all partitions are laid end to end in a row, partition after partition.
+-- The row is cut into lanes of as many places as the plan has rounds. Its sets are those of these slots.
 use Rattle.std.specs.Prelude.{ℕ, suc, ◌+◌, ◌-◌, ◌*◌, ◌/◌, List, [], ◌∷◌, sum, take, map, slice_index, nat_lt, nat_le, ◌&&◌, Option, Some, None, option_map, if◌then◌else◌, filter_map}
 use Rattle.std.specs.List.{range_with_len}
 use Rattle.jb_cert.specs.declared.plans.Slot.{Slot}
@@ -15,9 +15,9 @@ abbrev pub partition_at_place : List ℕ → ℕ → ℕ
 partition_at_place [] x = 0
 partition_at_place (n ∷ ns) x = if nat_lt x n then 0 else suc (partition_at_place ns (x - n))
 
--- The chunk at place x of a partition of n chunks that begins at place start, in lanes of so many rounds. Where the
--- partition goes on past the end of its lane, its part behind the cut stands in the next lane's first rounds, and so has
--- the first chunks: chunks are numbered by rounds, not along the lanes.
+-- The chunk at place x of a partition of n chunks that begins at place start, in lanes of so many rounds. If the
+-- partition continues past the end of its lane, its part after the cut is in the next lane's first rounds. So that part
+-- has the first chunks: chunks are numbered by rounds, not along the lanes.
 abbrev pub chunk_at_place : ℕ → ℕ → ℕ → ℕ → ℕ
 chunk_at_place rounds start n x =
     let cut = (start / rounds + 1) * rounds in

@@ -1,2 +1,2 @@
--- What only this crate's own functions and proofs speak of.
+-- Definitions for only this crate's own functions and proofs.
 pub mod Walk

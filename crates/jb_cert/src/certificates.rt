@@ -1,4 +1,4 @@
-//! Reasons why no lawful plan has fewer rounds.
+//! Reasons why no valid plan has fewer rounds.
 ghost use Rattle.std.specs.Prelude.{◌≡◌, ◌↔◌, IsTrue};
 ghost use Rattle.jb_cert.specs.Load.{IsWithinLimits};
 ghost use Rattle.jb_cert.specs.Lawful.{IsLeastNumber, NoneIsShorter};
@@ -7,7 +7,7 @@ ghost use Rattle.jb_cert.specs.Certificates.{Holds, is_least_plan};
 use crate::load::{least_rounds, total_of};
 use std::fmt;
 
-/// A reason why no lawful plan has fewer rounds. It is one of the two bounds that McNaughton's formula is made of.
+/// A reason why no valid plan has fewer rounds. It is one of the two bounds of McNaughton's formula.
 #[derive(Clone, Copy, Debug, PartialEq, Eq)]
 pub enum Certificate {
     /// There is no chunk, and no round.
@@ -34,8 +34,7 @@ impl fmt::Display for Certificate {
     }
 }
 
-/// Whether the certificate holds for that many rounds. A yes means that no lawful plan has fewer; a no leaves open
-/// whether one has.
+/// Whether the certificate holds for that many rounds. True means that no valid plan has fewer; false leaves open whether one has.
 pub fn check_certificate(
     counts: &[u64],
     threads: u32,
@@ -56,7 +55,7 @@ pub fn check_certificate(
     }
 }
 
-/// Whether that is the fewest rounds of any lawful plan, and the certificate holds for it.
+/// Whether that is the fewest rounds of any valid plan, and the certificate holds for it.
 #[tactic(auto, using(crate::proofs::Meant::least_plan_is))]
 pub fn is_least_plan(counts: &[u64], threads: u32, rounds: u64, certificate: Certificate) -> bool
     requires { IsWithinLimits counts.now threads }

@@ -11,9 +11,9 @@ use std::alloc::Global;
 
 /// The first fault of the plan, if it has one.
 ///
-/// The slots are judged one by one, in the order of the rounds and of each round's list, and each by these tests in
-/// turn: `LaneRange`, `Stranger`, `TwiceInRound`, `OutOfOrder`. Where no slot has a fault, a chunk that stands in no
-/// round is `Missing`.
+/// The slots are judged one by one, in the order of the rounds and of each round's list. The tests of a slot are, in
+/// turn, `LaneRange`, `Stranger`, `TwiceInRound` and `OutOfOrder`. If no slot has a fault, a chunk that is in no round is
+/// `Missing`.
 pub fn check_plan(alloc: Global, counts: &[u64], threads: u32, plan: &Plan) -> Result<(), PlanFault>
     requires { IsWithinLimits counts.now threads }
     ensures lawful { OnOk result (StandsForLawful counts.now threads (plan_rounds plan.now)) }
@@ -31,7 +31,7 @@ pub fn check_plan(alloc: Global, counts: &[u64], threads: u32, plan: &Plan) -> R
     }
 }
 
-// Judges all rounds; `ran` counts the chunks of each partition, and none has run.
+// Judges all rounds; `ran` counts the chunks of each partition that ran, at first none.
 fn plan_fault(counts: &[u64], threads: u32, plan: &Plan, ran: &mut [u64]) -> Option<PlanFault>
     requires long { length ran.old ≡ length counts.now }
     requires none { (p : ℕ) → p < length counts.now → slice_index ran.old p ≡ 0 }

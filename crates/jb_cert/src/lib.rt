@@ -1,4 +1,4 @@
-//! How few rounds a partitioned step needs, why it can't do with fewer, and whether a plan of rounds is lawful.
+//! How few rounds a partitioned step needs, why it can't do with fewer, and whether a plan of rounds is valid.
 //!
 //! Each partition of the step has some chunks, to be run one after another, and each thread runs at most one chunk
 //! in a round. McNaughton's bound of 1959 says how many rounds that takes: as many as the longest partition has
@@ -6,7 +6,7 @@
 //!
 //! - `load`: the limits, and the least number of rounds.
 //! - `certificates`: short reasons why no plan has fewer rounds, and their test.
-//! - `plans`: plans of slots, and the ways in which one fails to be lawful.
+//! - `plans`: plans of slots, and the ways in which one fails to be valid.
 //! - `checker`: the test of a whole plan, whoever made it.
 //! - `notes`: a plan, and how much of it was run.
 //! - `laws`: what holds of every load.

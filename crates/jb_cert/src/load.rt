@@ -9,7 +9,7 @@ use jb_base::{MAX_CHUNKS, MAX_LOAD_PARTITIONS, MAX_THREADS};
 /// Whether the counts of chunks, one for each partition, and the number of threads are within the limits: at most
 /// 4,096 counts, at most 10,000,000 chunks in all, and 1 to 64 threads.
 ///
-/// Every other call with counts and threads asks for this.
+/// Every other call with counts and threads requires this.
 pub fn fits(counts: &[u64], threads: u32) -> bool
     ensures { IsTrue result ↔ IsWithinLimits counts.now threads }
 {
@@ -34,7 +34,7 @@ pub(crate) fn total_of(counts: &[u64]) -> u64
     counts.iter().sum()
 }
 
-/// The largest count, 0 where there is none.
+/// The largest count, 0 if there is no count.
 fn longest_of(counts: &[u64]) -> u64
     ensures { result ≡ longest_count counts.now }
 {
@@ -45,8 +45,8 @@ fn longest_of(counts: &[u64]) -> u64
     longest
 }
 
-/// The fewest rounds of any lawful plan, by McNaughton's formula of 1959: the largest count or, where that is more,
-/// the chunks divided by the threads and rounded up. 0 to 10,000,000.
+/// The fewest rounds of any valid plan, by McNaughton's formula of 1959. It is the largest count or, if that is more, the
+/// chunks divided by the threads and rounded up. 0 to 10,000,000.
 pub fn least_rounds(counts: &[u64], threads: u32) -> u64
     requires { IsWithinLimits counts.now threads }
     ensures bound { result ≡ mcnaughton counts.now threads }

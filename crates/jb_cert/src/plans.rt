@@ -1,4 +1,4 @@
-//! Plans of slots, and why a plan is not lawful.
+//! Plans of slots, and why a plan is not valid.
 use std::fmt;
 use thiserror::Error;
 
@@ -16,7 +16,7 @@ pub struct Plan {
     pub rounds: Vec<Vec<Slot>>,
 }
 
-/// Why a plan is not lawful, or could not be checked.
+/// Why a plan is not valid, or could not be checked.
 #[derive(Clone, Copy, Debug, PartialEq, Eq, Error)]
 pub enum PlanFault {
     /// A lane is not below the number of threads.
@@ -25,7 +25,7 @@ pub enum PlanFault {
     TwiceInRound,
     /// A chunk is not its partition's next one: an earlier one has not run, or it has run itself.
     OutOfOrder,
-    /// A chunk stands in no round.
+    /// A chunk is in no round.
     Missing,
     /// There is no such partition, or it has no such chunk.
     Stranger,

@@ -12,7 +12,7 @@ use Rattle.jb_artifacts.specs.Writer.{Writer, Numbered, texts_of, write_fault, a
 use Rattle.jb_artifacts.specs.Meaning.{ArtifactsMeaning}
 use Rattle.jb_chunk.specs.declared.outcome.Outcome.{Outcome}
 use Rattle.jb_chunk.specs.Attempt.{block_of, counts_of, end_of, end_at, end_by, fault_at, skips_at, settled_at, results_of, row_after, artifacts_used}
-use Rattle.jb_chunk.specs.Standing.{TaskState}
+use Rattle.jb_chunk.specs.TaskState.{TaskState}
 use Rattle.jb_chunk.specs.Block.{entry, settles, settling, stops, skips_before, choice_at, is_skip}
 use Rattle.jb_chunk.specs.Entries.{fault_in}
 use Rattle.jb_chunk.specs.inside.TriedChunk.{HasDelta}

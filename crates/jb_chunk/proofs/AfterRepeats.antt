@@ -9,7 +9,7 @@ use Rattle.jb_artifacts.specs.Reader.{Reader, reader_end}
 use Rattle.jb_artifacts.specs.Writer.{Writer}
 use Rattle.jb_chunk.specs.Alone.{retries_left}
 use Rattle.jb_chunk.specs.Attempt.{block_of, all_repeated, after_repeats, again_of, IsRestored}
-use Rattle.jb_chunk.specs.Standing.{TaskState, IsReady}
+use Rattle.jb_chunk.specs.TaskState.{TaskState, IsReady}
 use Rattle.jb_chunk.proofs.ChunkRepeats.{after_repeats-repeated}
 
 -- all repeats change nothing else of the task

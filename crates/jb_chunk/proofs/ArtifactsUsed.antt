@@ -7,7 +7,7 @@ use Rattle.jb_artifacts.specs.Writer.{Texts, texts_of, after_write}
 use Rattle.jb_artifacts.specs.Meaning.{ArtifactsMeaning}
 use Rattle.jb_chunk.specs.Attempt.{block_of, results_of, artifacts_used}
 use Rattle.jb_chunk.specs.Block.{passed}
-use Rattle.jb_chunk.specs.Standing.{TaskState}
+use Rattle.jb_chunk.specs.TaskState.{TaskState}
 
 -- how far the records are read: past the one that settles the chunk, else to the chunk's end
 abbrev pub read_end : TaskState → (settled : Option ℕ) → ℕ

@@ -10,7 +10,7 @@ use Rattle.jb_chunk.specs.declared.outcome.Outcome.{Outcome}
 use Rattle.jb_chunk.specs.declared.outcome.Outcome.TheVariants.{Committed, Rolled, Failed, NoMemory}
 use Rattle.jb_chunk.specs.Attempt.{after_repeats, block_of, results_of, settled_at, artifacts_used, row_after, values_of, IsRestored, again_of, ending_of, ending_by, attempt_of}
 use Rattle.jb_chunk.specs.Block.{passed, MayBeUsed}
-use Rattle.jb_chunk.specs.Standing.{TaskState, IsReady, at_checkpoint}
+use Rattle.jb_chunk.specs.TaskState.{TaskState, IsReady, at_checkpoint}
 use Rattle.jb_chunk.specs.inside.TriedChunk.{IsTried}
 use Rattle.jb_chunk.proofs.WrittenResults.{front-kept}
 use Rattle.jb_chunk.proofs.ArtifactsUsed.{read_end, write_plans, more_written, used-as, used-there}

@@ -10,7 +10,7 @@ use Rattle.jb_artifacts.specs.Meaning.{ArtifactsMeaning}
 use Rattle.jb_chunk.specs.declared.outcome.Outcome.{Outcome}
 use Rattle.jb_chunk.specs.declared.outcome.Outcome.TheVariants.{Committed, Rolled, Failed, NoMemory}
 use Rattle.jb_chunk.specs.Attempt.{IsRestored, block_of, all_repeated, after_repeats, again_of, settled_at, row_after, artifacts_used, values_of, IsAttempt, ending_of, ending_by, attempt_of}
-use Rattle.jb_chunk.specs.Standing.{TaskState, IsReady, at_checkpoint}
+use Rattle.jb_chunk.specs.TaskState.{TaskState, IsReady, at_checkpoint}
 use Rattle.jb_chunk.specs.inside.TriedChunk.{IsTried, HasDelta}
 use Rattle.jb_chunk.proofs.AddedCounts.{end-added}
 use Rattle.jb_chunk.proofs.AfterRepeats.{repeats-count, after_repeats-is, after_repeats-row, after_repeats-block, after_repeats-artifacts, after_repeats-ready-by, again-few}

@@ -14,7 +14,7 @@ use Rattle.jb_artifacts.specs.Faults.{FaultTable, used, used_at}
 use Rattle.jb_artifacts.specs.Writer.{failing, used_for}
 use Rattle.jb_artifacts.specs.Meaning.{ArtifactsMeaning}
 use Rattle.jb_chunk.specs.Attempt.{settled_at, results_of, fault_at, skips_at, called_again, repeated_artifacts, repeated, asks_repeat, repeated_up_to, all_repeated, IsRestored, block_of}
-use Rattle.jb_chunk.specs.Standing.{TaskState}
+use Rattle.jb_chunk.specs.TaskState.{TaskState}
 use Rattle.jb_chunk.specs.Block.{entry, settles, settling, stops, repeats, choice_at, is_skip, is_again, used_times, MayBeUsed}
 use Rattle.jb_chunk.specs.inside.Repeats.{IsRepeated}
 use Rattle.jb_chunk.specs.Entries.{Entry, ReadFault, ProcessFault, Processed}

@@ -14,7 +14,7 @@ use Rattle.jb_artifacts.specs.Meaning.{ArtifactsMeaning}
 use Rattle.jb_chunk.specs.declared.entry.EntryKind.TheVariants as kind
 use Rattle.jb_chunk.specs.declared.gather.Gathered.TheVariants.{Settled}
 use Rattle.jb_chunk.specs.Attempt.{IsRestored, block_of}
-use Rattle.jb_chunk.specs.Standing.{TaskState}
+use Rattle.jb_chunk.specs.TaskState.{TaskState}
 use Rattle.jb_chunk.specs.Block.{entry, entry_by, repeats, is_again, choice_at, settling, passed, MayBeUsed}
 use Rattle.jb_chunk.specs.Entries.{Entry, ReadFault, ProcessFault, Processed, fault_in, numbered}
 use Rattle.jb_chunk.specs.inside.Gathering.{Yield, IsTally, IsGatheringStep, IsWornTo, passed_one, processed_at}

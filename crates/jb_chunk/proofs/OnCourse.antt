@@ -19,7 +19,7 @@ use Rattle.jb_chunk.specs.Alone.{is_rolled, retries_left, attempts_left}
 use Rattle.jb_chunk.specs.Entries.{one_if}
 use Rattle.jb_chunk.specs.Attempt.{AttemptEnd, after_repeats, block_of, again_of, end_of, attempt_of, ending_by, row_after, settled_at, artifacts_used, IsAttemptBy}
 use Rattle.jb_chunk.specs.Laws.{blocks_of, CommitsHaveDeltas}
-use Rattle.jb_chunk.specs.Standing.{TaskState, IsReady, HasItemCount}
+use Rattle.jb_chunk.specs.TaskState.{TaskState, IsReady, HasItemCount}
 use Rattle.jb_chunk.specs.inside.TriedChunk.{HasDelta}
 use Rattle.jb_chunk.proofs.AddedCounts.{end-added}
 use Rattle.jb_chunk.proofs.AfterRepeats.{after_repeats-row, after_repeats-block, after_repeats-artifacts, after_repeats-left, after_repeats-in_place, after_repeats-ready}

@@ -5,7 +5,7 @@ use Rattle.jb_artifacts.specs.Faults.{FaultTable, is_live}
 use Rattle.jb_artifacts.specs.Writer.{Numbered, failing}
 use Rattle.jb_artifacts.specs.Meaning.{ArtifactsMeaning}
 use Rattle.jb_chunk.specs.Attempt.{results_of, settled_at, block_of}
-use Rattle.jb_chunk.specs.Standing.{TaskState}
+use Rattle.jb_chunk.specs.TaskState.{TaskState}
 use Rattle.jb_chunk.proofs.ArtifactsUsed.{read_end}
 use Rattle.jb_chunk.specs.Block.{entry, results, settles, settling}
 use Rattle.jb_chunk.specs.Entries.{text_in, numbered}

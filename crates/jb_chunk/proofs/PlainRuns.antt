@@ -19,7 +19,7 @@ use Rattle.jb_chunk.specs.Attempt.{block_of, all_repeated, again_of, asks_repeat
 use Rattle.jb_chunk.specs.Block.{results, skips_before, repeats}
 use Rattle.jb_chunk.specs.Entries.{is_fault, is_read_fault}
 use Rattle.jb_chunk.specs.Plain.{plain_answers, plain_delta, plain_row, plain_outputs, IsCalm, IsPlain}
-use Rattle.jb_chunk.specs.Standing.{TaskState, HasItemCount, IsReady, at_checkpoint}
+use Rattle.jb_chunk.specs.TaskState.{TaskState, HasItemCount, IsReady, at_checkpoint}
 use Rattle.jb_rules.specs.declared.row.RowState.{RowState}
 use Rattle.jb_chunk.proofs.ChunkRepeats.{after_repeats-last}
 use Rattle.jb_chunk.proofs.ArtifactsUsed.{artifacts_as}

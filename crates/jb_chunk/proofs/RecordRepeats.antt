@@ -15,7 +15,7 @@ use Rattle.jb_artifacts.specs.Faults.{FaultTable, used, used_at, live, is_live}
 use Rattle.jb_artifacts.specs.Reader.{record_at}
 use Rattle.jb_artifacts.specs.Meaning.{ArtifactsMeaning}
 use Rattle.jb_chunk.specs.Attempt.{settled_at, fault_at, skips_at, called_again, repeated_artifacts, asks_repeat, block_of}
-use Rattle.jb_chunk.specs.Standing.{TaskState}
+use Rattle.jb_chunk.specs.TaskState.{TaskState}
 use Rattle.jb_chunk.specs.Block.{entry, entry_by, settles, settling, stops, repeats, skips_before, count_of, results, used_between, passed}
 use Rattle.jb_chunk.specs.Entries.{Entry, ReadFault, ProcessFault, Processed, fault_in, is_fault, is_read_fault, text_in, numbered}
 use Rattle.jb_chunk.specs.inside.Gathering.{Yield, IsTally, passed_one}

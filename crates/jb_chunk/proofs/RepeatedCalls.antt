@@ -17,7 +17,7 @@ use Rattle.jb_artifacts.specs.Writer.{Numbered, texts_of, cut, write_fault, afte
 use Rattle.jb_artifacts.specs.Meaning.{ArtifactsMeaning}
 use Rattle.jb_chunk.specs.Block.{repeats}
 use Rattle.jb_chunk.specs.Entries.{numbered}
-use Rattle.jb_chunk.specs.Standing.{HasRepeats}
+use Rattle.jb_chunk.specs.TaskState.{HasRepeats}
 use Rattle.jb_chunk.specs.inside.Repeats.{Call, called_times, called, next_fault, seen_as, fault_answered, results_behind, read_call, process_call, write_call, IsCalling, IsCalled, IsRead, IsProcessed, IsPut, rewritten, written_times}
 use Rattle.jb_chunk.proofs.WrittenResults.{take-front}
 use Rattle.jb_chunk.proofs.ChunkRepeats.{repeats-below}

@@ -22,7 +22,7 @@ use Rattle.jb_chunk.specs.inside.TriedChunk.{HasDelta}
 use Rattle.jb_chunk.proofs.AddedCounts.{end-added}
 use Rattle.jb_chunk.proofs.AfterRepeats.{after_repeats-row, after_repeats-left, after_repeats-in_place, repeats-count}
 use Rattle.jb_chunk.proofs.ChunkRepeats.{choice_by, can_skip, opened-below}
-use Rattle.jb_chunk.specs.Standing.{TaskState, IsReady, HasItemCount, HasRepeats}
+use Rattle.jb_chunk.specs.TaskState.{TaskState, IsReady, HasItemCount, HasRepeats}
 
 -- a chunk is rolled back only where a retry is left
 rolled-open : (again retrying skip opened : Bool) (skipped : Counts) (k class : ClassId) → end_by skipped k (choice_by again retrying skip opened) ≡ Rolled class → opened ≡ true

@@ -11,7 +11,7 @@ use Rattle.jb_rules.specs.States.{has_ended}
 use Rattle.jb_chunk.specs.Alone.{IsRunOf, IsOnTheWay, IsAlone, retries_of, retries_left, attempts_left}
 use Rattle.jb_chunk.specs.Attempt.{AttemptEnd, after_repeats, end_of, attempt_of}
 use Rattle.jb_chunk.specs.Laws.{OneEnd, CalmRunsArePlain, RunsAreShort, RetriesAreFew, WaysJoin, WaysEnd, TasksStayReady, TasksStandAtCheckpoints, SamePlace, SameEnd, CommitsTakeOneChunk}
-use Rattle.jb_chunk.specs.Standing.{TaskState, IsReady, taken_up}
+use Rattle.jb_chunk.specs.TaskState.{TaskState, IsReady, reopened}
 use Rattle.jb_chunk.proofs.OnCourse.{IsOnCourse, Goes, ready-course, course-next, rollbacks-rise, repeats-grow, ready-next, one-chunk, retry-by}
 use Rattle.jb_chunk.proofs.AfterRepeats.{after_repeats-row, after_repeats-left}
 use Rattle.jb_chunk.proofs.PlainRuns.{plain-run, plain-alone}
@@ -150,7 +150,7 @@ tasks-stay-ready law stay t s ready way room repeats = ready-run law stay t way.
 -- TAKING UP AGAIN
 
 -- a task at its checkpoint, taken up again, is where it was
-taken-up : (t : TaskState) → t.artifacts.reader.place ≡ t.row.at → length t.artifacts.writer.written ≡ t.row.written → taken_up t ≡ t
+taken-up : (t : TaskState) → t.artifacts.reader.place ≡ t.row.at → length t.artifacts.writer.written ≡ t.row.written → reopened t ≡ t
 taken-up t place count = λ i. record t {
   artifacts = record t.artifacts {
     reader = record t.artifacts.reader { place = sym place i };

@@ -13,7 +13,7 @@ use Rattle.jb_artifacts.specs.Meaning.{ArtifactsMeaning}
 use Rattle.jb_chunk.specs.declared.outcome.Outcome.{Outcome}
 use Rattle.jb_chunk.specs.declared.outcome.Outcome.TheVariants.{Committed}
 use Rattle.jb_chunk.specs.Attempt.{block_of, settled_at, results_of, fault_at, skips_at, counts_with, counts_of, end_at, end_by, end_of, row_after, artifacts_used}
-use Rattle.jb_chunk.specs.Standing.{TaskState, at_checkpoint}
+use Rattle.jb_chunk.specs.TaskState.{TaskState, at_checkpoint}
 use Rattle.jb_chunk.specs.Block.{entry, choice_at, skips_before, is_skip, passed}
 use Rattle.jb_chunk.specs.Entries.{fault_in}
 use Rattle.jb_chunk.specs.inside.Gathering.{Yield, IsTally}

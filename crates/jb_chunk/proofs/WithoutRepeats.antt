@@ -11,7 +11,7 @@ use Rattle.jb_chunk.specs.declared.outcome.Outcome.TheVariants.{Committed, Rolle
 use Rattle.jb_chunk.specs.Attempt.{AttemptEnd, IsAttemptBy, fault_at, skips_at, settled_at, asks_repeat, attempt_of, block_of, ending_by, end_of, row_after}
 use Rattle.jb_chunk.specs.Block.{repeats, is_again}
 use Rattle.jb_chunk.specs.Laws.{AttemptsWithoutRepeats, RepeatsStay}
-use Rattle.jb_chunk.specs.Standing.{TaskState}
+use Rattle.jb_chunk.specs.TaskState.{TaskState}
 use Rattle.jb_chunk.proofs.ChunkRepeats.{choice_by, can_skip, after_repeats-last}
 
 no-class : (class : ClassId) → has_class 0 class ≡ false

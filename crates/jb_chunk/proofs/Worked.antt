@@ -11,7 +11,7 @@ use Rattle.jb_chunk.specs.Alone.{IsRunOf, attempts_left}
 use Rattle.jb_chunk.specs.Attempt.{AttemptEnd, attempt_of, end_of, asks_repeat, repeated_up_to, all_repeated, artifacts_used}
 use Rattle.jb_chunk.specs.Block.{entry, results, count_of, settles, settling, used_between}
 use Rattle.jb_chunk.specs.Plain.{plain_answers}
-use Rattle.jb_chunk.specs.Standing.{TaskState}
+use Rattle.jb_chunk.specs.TaskState.{TaskState}
 use Rattle.jb_chunk.specs.Worked.{FirstRunAlone, EverythingFiltered, NoRecordAlone, RetryToSingles, SkipInRedo, OneFailedAlone, TornWrite, WriteRetried, WriteFailed, ShakyWrite, RetryLimit, ReadSkip, SkippedBeforeWrite, RolledBackSkip, Repeat, RepeatLimit, RepeatedWrite, RepeatedAndRolled, RepeatedThenSkipped, SkippedAndRepeated, SkippedInRedo, RepeatedReads, AllSeen, PlainRuns, RunsTo, numbers, texts_in, filtered_task, first_task, second_task, recordless_task, retried_task, skipped_task, failed_task, beside_failed_task, torn_task, rewritten_task, unwritable_task, shaky_writes_task, retried_out_task, read_skipped_task, skipped_and_unwritable_task, rolled_back_task, repeated_task, repeated_out_task, repeated_write_task, repeated_and_rolled_task, repeated_then_skipped_task, skipped_and_repeated_task, skipped_in_redo_task, repeated_reads_task, seen_task}
 
 -- the first `n` attempts, while the task waits, and where they lead

@@ -18,7 +18,7 @@ use Rattle.jb_chunk.specs.declared.outcome.Outcome.{Outcome}
 use Rattle.jb_chunk.specs.declared.outcome.Outcome.TheVariants.{Committed}
 use Rattle.jb_chunk.specs.declared.gather.Gathered.TheVariants.{Settled}
 use Rattle.jb_chunk.specs.Attempt.{settled_at, results_of, fault_at, skips_at, repeated, repeated_artifacts, asks_repeat, all_repeated, end_by, row_after, block_of}
-use Rattle.jb_chunk.specs.Standing.{TaskState, at_checkpoint}
+use Rattle.jb_chunk.specs.TaskState.{TaskState, at_checkpoint}
 use Rattle.jb_chunk.specs.Block.{entry, results, repeats, is_skip, is_again, choice_at, passed, skips_before, MayBeUsed}
 use Rattle.jb_chunk.specs.Entries.{fault_in}
 use Rattle.jb_chunk.specs.inside.Gathering.{Yield, IsTally, IsWornTo}

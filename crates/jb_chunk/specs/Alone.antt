@@ -9,10 +9,10 @@ use Rattle.jb_chunk.specs.declared.outcome.Outcome.TheVariants as outcome
 use Rattle.jb_chunk.specs.Entries.{one_if}
 use Rattle.jb_chunk.specs.Attempt.{AttemptEnd, attempt_of, IsUnfinished}
 use Rattle.jb_chunk.specs.Plain.{IsCalm, IsPlain}
-use Rattle.jb_chunk.specs.Standing.{TaskState}
+use Rattle.jb_chunk.specs.TaskState.{TaskState}
 
--- these attempts, one after another, lead a task from one place to another: each is the attempt of where it stood, and it
--- waited there
+-- these attempts, one after another, lead a task from one place to another: each is the attempt of the task as it was there,
+-- and it waited there
 abbrev pub IsRunOf : TaskState → List AttemptEnd → TaskState → Type 0
 IsRunOf t [] s = s ≡ t
 IsRunOf t (e ∷ es) s = (t.row.state ≡ state.Waiting) × (e ≡ attempt_of t) × IsRunOf e.task es s
@@ -30,7 +30,7 @@ abbrev pub is_rolled : Outcome → Bool
 is_rolled (outcome.Rolled class) = true
 is_rolled _ = false
 
--- the retries of an attempt: the calls that it repeated in place, and one more where its chunk was rolled back
+-- the retries of an attempt: the calls that it repeated in place, and one more if its chunk was rolled back
 abbrev pub retries_of : AttemptEnd → ℕ
 retries_of e = e.again + one_if (is_rolled e.outcome)
 
@@ -66,7 +66,7 @@ EndsAlone t Finished s = IsAlone t s × (s.row.state ≡ state.Finished)
 EndsAlone t Failed s = IsAlone t s × (s.row.state ≡ state.Failed)
 EndsAlone t NoMemory s = IsBroken t s
 
--- where no call in the range fails, the task does what its Plain run does, if there is memory
+-- if no call in the range fails and there is memory, the task does what its Plain run does
 abbrev pub KeepsPlain : TaskState → AloneEnd → TaskState → Type 0
 KeepsPlain t Finished s = IsCalm t.artifacts t.row.at t.row.hi → IsPlain t s
 KeepsPlain t Failed s = IsCalm t.artifacts t.row.at t.row.hi → ⊥

@@ -16,7 +16,7 @@ use Rattle.jb_chunk.specs.declared.outcome.Outcome.{Outcome}
 use Rattle.jb_chunk.specs.declared.outcome.Outcome.TheVariants.{Committed, Rolled, Failed, NoMemory}
 use Rattle.jb_chunk.specs.Block.{entry, results, count_of, skips_before, choice_at, repeats, settling, passed, MayBeUsed}
 use Rattle.jb_chunk.specs.Entries.{Entry, ReadFault, fault_in, is_fault, is_read_fault}
-use Rattle.jb_chunk.specs.Standing.{TaskState, at_checkpoint}
+use Rattle.jb_chunk.specs.TaskState.{TaskState, at_checkpoint}
 
 -- THE CHUNK
 
@@ -31,7 +31,7 @@ results_of t = results t.artifacts t.row.at (block_of t).hi
 abbrev pub settled_at : TaskState → Option ℕ
 settled_at t = settling t.rules t.row t.artifacts (block_of t).hi
 
--- the fault at which the chunk stands: that of its settling record, else its write's
+-- the fault that the chunk has reached: that of its settling record, else its write's
 abbrev pub fault_at : TaskState → (settled : Option ℕ) → Option ClassId
 fault_at t (Some k) = fault_in (entry t.artifacts k)
 fault_at t None = write_fault t.artifacts.writer (results_of t)
@@ -42,9 +42,9 @@ skips_at t settled = skips_before t.row t.artifacts (unwrap_or settled (block_of
 
 -- HOW IT ENDS
 
--- What a chunk of so many records adds to the counts that is committed, with so many skips of records, so many of them of
--- reads, and so many results, so many of them written, and so many write calls skipped (Jakarta Batch 2.1, "Metric"; that
--- READ counts the reads that succeeded, and a skipped write call counts one, is this project's choice).
+-- What a committed chunk of so many records adds to the counts (Jakarta Batch 2.1, "Metric"). The other numbers: the skips of
+-- records, those of them that are of reads, the results, those of them that are written, and the skipped write calls. READ
+-- counts the reads that succeeded, and a skipped write call counts one: both are this project's choice.
 abbrev pub counts_with : (records skips read_skips results written write_skips : ℕ) → Counts
 counts_with records skips read_skips results written write_skips = record no_counts {
   read = records - read_skips;
@@ -63,8 +63,8 @@ counts_of t =
     counts_with ((block_of t).hi - t.row.at) (counted is_fault) (counted is_read_fault) (length (results_of t))
 
 -- A chunk ends by a fault as is chosen for it, when no call of it is to be repeated any more (Jakarta Batch 2.1, "Chunk
--- Exception Handling"). One that is skipped and ends it is a write's, with which the whole list of that write call is left
--- out (this project's choice): then it is committed with these counts.
+-- Exception Handling"). A skipped fault that ends it is a write's: the whole list of that write call is left out (this
+-- project's choice), and the chunk is committed with these counts.
 abbrev pub end_by : (skipped : Counts) → ClassId → Choice → Outcome
 end_by skipped class Skip = Committed skipped
 end_by skipped class Fail = Failed class
@@ -85,19 +85,19 @@ abbrev pub called_again : ArtifactsMeaning → ℕ → Entry → ArtifactsMeanin
 called_again w k (ReadFault class) = record w { reader = record w.reader { faults = used_at w.reader.faults k } }
 called_again w k _ = record w { processor = record w.processor { faults = used_at w.processor.faults k } }
 
--- the artifacts when the call at which the chunk stands is repeated: that of its settling record, else its write, of which
--- nothing is kept
+-- the artifacts when the call that the chunk has reached is repeated: that of its settling record, else its write, of which
+-- nothing stays
 abbrev pub repeated_artifacts : TaskState → (settled : Option ℕ) → ArtifactsMeaning
 repeated_artifacts t (Some k) = called_again t.artifacts k (entry t.artifacts k)
 repeated_artifacts t None = record t.artifacts { writer = record (after_write t.artifacts.writer (results_of t)) { written = t.artifacts.writer.written } }
 
 -- The task when that call is repeated: its chunk is the same without the fault, and one retry is used (Jakarta Batch 2.1,
--- "Preventing Rollback During Retry"; that the call alone is repeated, the reader or the writer being opened again before
--- it, and that it uses a retry, is this project's choice).
+-- "Preventing Rollback During Retry"). It is this project's choice that the call alone is repeated, that the reader or the
+-- writer is opened again before it, and that it uses a retry.
 abbrev pub repeated : TaskState → TaskState
 repeated t = record t { row = repeated_row t.row 1; artifacts = repeated_artifacts t (settled_at t) }
 
--- the call at which the chunk stands has a fault, and is to be repeated
+-- the call that the chunk has reached has a fault, and is to be repeated
 unfoldable pub asks_repeat : TaskState → Bool
 asks_repeat t = repeats t.rules t.row (fault_at t (settled_at t)) (skips_at t (settled_at t))
 
@@ -106,8 +106,8 @@ unfoldable pub repeated_up_to : ℕ → TaskState → TaskState
 repeated_up_to zero t = t
 repeated_up_to (suc n) t = if asks_repeat t then repeated_up_to n (repeated t) else t
 
--- The task after all repeats of its next chunk. Each uses a retry, so no more are asked for than there are retries left, and
--- the fault at which the chunk then stands, if there is one, is not to be repeated any more.
+-- The task after all repeats of its next chunk. Each uses a retry, so no more are asked for than there are retries left. The
+-- fault that the chunk has then reached, if there is one, is not to be repeated any more.
 unfoldable pub all_repeated : TaskState → TaskState
 all_repeated t = repeated_up_to (t.rules.retry_limit - t.row.retries) t
 
@@ -138,8 +138,8 @@ artifacts_used t None = record (passed t.artifacts t.row.at (block_of t).hi) { w
 abbrev pub view_of : (partition : ℕ) → Row → (last : Bool) → RowView
 view_of partition row last = record { partition = partition; lo = row.lo; hi = row.hi; at = row.at; counts = row.counts; last = last }
 
--- The collector's texts for a chunk that ended so and left this row: where it is committed one, and one more where the
--- partition is finished by it (Jakarta Batch 2.1, "Partition Collector"; the number of its calls is this project's choice).
+-- The collector's texts for a chunk that ended so and left this row (Jakarta Batch 2.1, "Partition Collector"). There is one
+-- if it is committed, and one more if it finishes the partition. The number of the collector's calls is this project's choice.
 abbrev pub values_of : (RowView → List ℕ) → (partition : ℕ) → Row → Outcome → List (List ℕ)
 values_of collector partition row (Committed delta) =
     collector (view_of partition row false)
@@ -157,15 +157,15 @@ abbrev pub ending_of : TaskState → Outcome → List (List ℕ) → (again : �
 ending_of task out values again = record { task = task; outcome = out; values = values; again = again }
 
 -- What each end of the chunk leaves, after so many repeats: its row, and the artifacts that it used, opened at that row's
--- checkpoint. So the results of a committed chunk are written behind the others, unless its write call is skipped. Else the
--- reader stands at the last checkpoint again (Jakarta Batch 2.1, "Default Retry Behavior - Rollback"), and what a failing
--- write call wrote is not kept (this project's choice).
+-- checkpoint. So the results of a committed chunk are written after the others, unless its write call is skipped. Else the
+-- reader is at the last checkpoint again (Jakarta Batch 2.1, "Default Retry Behavior - Rollback"). What a failing write call
+-- wrote is cut off (this project's choice).
 abbrev pub ending_by : TaskState → (again : ℕ) → Outcome → AttemptEnd
 ending_by t again out =
     let row = row_after t.row (block_of t).hi out in
     ending_of (record t { row = row; artifacts = at_checkpoint row (artifacts_used t (settled_at t)) }) out (values_of t.artifacts.collector t.partition row out) again
 
--- the attempt at the task's next chunk, where it finds its memory: the chunk ends after all its repeats
+-- the attempt at the task's next chunk, if it finds its memory: the chunk ends after all its repeats
 abbrev pub attempt_of : TaskState → AttemptEnd
 attempt_of t = ending_by (after_repeats t) (again_of t) (end_of (after_repeats t))
 

@@ -15,9 +15,9 @@ use Rattle.jb_artifacts.specs.Writer.{Numbered}
 use Rattle.jb_artifacts.specs.Meaning.{ArtifactsMeaning}
 use Rattle.jb_chunk.specs.Entries.{Entry, ReadFault, ProcessFault, Processed, fault_in, is_fault, text_in, numbered}
 
--- What becomes of a record is one of three things: its read fails; else its process call fails; else it is processed, and
--- has a result, unless the processor answers none, which filters it (Jakarta Batch 2.1, "Regular Chunk Processing" and
--- "ItemProcessor").
+-- What becomes of a record is one of three things: its read fails; else its process call fails; else it is processed. A
+-- processed record has a result, unless the processor answers none, which filters it (Jakarta Batch 2.1, "Regular Chunk
+-- Processing" and "ItemProcessor").
 abbrev pub entry_by : (read_fault process_fault : Option ClassId) → (answer : Option (List ℕ)) → Entry
 entry_by (Some class) process_fault answer = ReadFault class
 entry_by None (Some class) answer = ProcessFault class
@@ -75,8 +75,8 @@ settling rules row w hi = find (settles rules row w) (range_with_len row.at (hi 
 unfoldable pub used_between : (called : ℕ → Bool) → FaultTable → (lo hi : ℕ) → FaultTable
 used_between called plans lo hi = λ k. if nat_le lo k && nat_lt k hi && called k then used (plans k) else plans k
 
--- Reader and processor after the records from `lo` to `hi - 1`: each is read, a read fault moves the reader past the
--- record (this project's choice), and only a record that was read is processed.
+-- Reader and processor after the records from `lo` to `hi - 1`. Each is read. A read fault moves the reader past the
+-- record (this project's choice). Only a record that was read is processed.
 abbrev pub passed : ArtifactsMeaning → (lo hi : ℕ) → ArtifactsMeaning
 passed w lo hi = record w {
   reader = record w.reader { place = hi; faults = used_between (λ _. true) w.reader.faults lo hi };

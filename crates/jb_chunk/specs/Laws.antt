@@ -12,7 +12,7 @@ use Rattle.jb_chunk.specs.declared.outcome.Outcome.TheVariants.{Committed}
 use Rattle.jb_chunk.specs.Alone.{IsRunOf, IsOnTheWay, IsAlone, retries_in, retries_left, attempts_left}
 use Rattle.jb_chunk.specs.Attempt.{AttemptEnd, IsAttempt, attempt_of, ending_by, end_of, block_of, after_repeats, again_of}
 use Rattle.jb_chunk.specs.Plain.{IsCalm, IsPlain}
-use Rattle.jb_chunk.specs.Standing.{TaskState, IsReady, taken_up}
+use Rattle.jb_chunk.specs.TaskState.{TaskState, IsReady, reopened}
 
 -- ONE END
 
@@ -32,8 +32,8 @@ CalmRunsArePlain =
 abbrev pub RunsAreShort : Type 0
 RunsAreShort = (t s : TaskState) (attempts : List AttemptEnd) → IsReady t → IsRunOf t attempts s → length attempts ≤ attempts_left t
 
--- a row's retries grow by those of the attempts, the repeats in place and the rollbacks together, which are no more than
--- there are left
+-- a row's retries grow by those of the attempts: the repeats in place and the rollbacks together, no more than there are
+-- retries left
 pub record HasRetries (t s : TaskState) (attempts : List AttemptEnd) : Type 0 where
   pub counted : s.row.retries ≡ t.row.retries + retries_in attempts
   pub few : retries_in attempts ≤ retries_left t
@@ -41,7 +41,7 @@ pub record HasRetries (t s : TaskState) (attempts : List AttemptEnd) : Type 0 wh
 abbrev pub RetriesAreFew : Type 0
 RetriesAreFew = (t s : TaskState) (attempts : List AttemptEnd) → IsRunOf t attempts s → HasRetries t s attempts
 
--- two ways, one behind the other, are one
+-- two ways, one after the other, are one
 abbrev pub WaysJoin : Type 0
 WaysJoin = (t between s : TaskState) → IsOnTheWay t between → IsOnTheWay between s → IsOnTheWay t s
 
@@ -53,27 +53,27 @@ WaysEnd = (t s : TaskState) → IsReady t → IsOnTheWay t s → has_ended s.row
 abbrev pub TasksStayReady : Type 0
 TasksStayReady = (t s : TaskState) → IsReady t → IsOnTheWay t s → s.row.counts.rollback ≤ max_rollbacks → s.row.in_place ≤ max_in_place → IsReady s
 
--- a task at its checkpoint: its reader stands there, as many results are written as its row says, and while it waits its next
--- chunk has a record and lies in its range
+-- A task at its checkpoint: its reader is there, and as many results are written as its row says. While it waits its next
+-- chunk has a record and is in its range.
 pub record IsAtCheckpoint (t : TaskState) : Type 0 where
   pub at_to : t.row.at ≤ t.row.hi
   pub place : t.artifacts.reader.place ≡ t.row.at
   pub count : length t.artifacts.writer.written ≡ t.row.written
   pub chunk : t.row.state ≡ state.Waiting → (t.row.at < (block_of t).hi) × ((block_of t).hi ≤ t.row.hi)
 
--- and however many its rollbacks are, it stands at its checkpoint
+-- and however many its rollbacks are, it is at its checkpoint
 abbrev pub TasksStandAtCheckpoints : Type 0
 TasksStandAtCheckpoints = (t s : TaskState) → IsReady t → IsOnTheWay t s → IsAtCheckpoint s
 
--- TAKING UP AGAIN
+-- RESUMING
 
--- taken up again where some of its attempts left it, a task is where it was
+-- resumed where some of its attempts left it, a task is where it was
 abbrev pub SamePlace : Type 0
-SamePlace = (t s : TaskState) → IsReady t → IsOnTheWay t s → taken_up s ≡ s
+SamePlace = (t s : TaskState) → IsReady t → IsOnTheWay t s → reopened s ≡ s
 
 -- and alone it ends where it would have ended without the break, and nowhere else
 abbrev pub SameEnd : Type 0
-SameEnd = (t s end : TaskState) → IsReady t → IsOnTheWay t s → IsAlone t end ↔ IsAlone (taken_up s) end
+SameEnd = (t s end : TaskState) → IsReady t → IsOnTheWay t s → IsAlone t end ↔ IsAlone (reopened s) end
 
 -- ONE ATTEMPT
 
@@ -99,8 +99,8 @@ RepeatsAreRetries = (t : TaskState) → (after_repeats t).row ≡ repeated_row t
 
 -- NO REPEATS
 
--- Where no class is to roll nothing back, no call is repeated in place. The attempt is that of the block as it stands, which
--- ends by its first fault that isn't skipped,
+-- If `no_rollback` has no class, no call is repeated in place. The attempt is that of the block as it is, which ends by its
+-- first fault that isn't skipped,
 abbrev pub AttemptsWithoutRepeats : Type 0
 AttemptsWithoutRepeats = (t : TaskState) → t.rules.no_rollback ≡ 0 → attempt_of t ≡ ending_by t 0 (end_of t)
 

@@ -4,6 +4,6 @@ pub mod Block
 pub mod Entries
 pub mod Laws
 pub mod Plain
-pub mod Standing
+pub mod TaskState
 pub mod Worked
 pub mod inside

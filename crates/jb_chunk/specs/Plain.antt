@@ -9,7 +9,7 @@ use Rattle.jb_rules.specs.Rows.{committed_row}
 use Rattle.jb_artifacts.specs.Faults.{live}
 use Rattle.jb_artifacts.specs.Reader.{record_at}
 use Rattle.jb_artifacts.specs.Meaning.{ArtifactsMeaning}
-use Rattle.jb_chunk.specs.Standing.{TaskState}
+use Rattle.jb_chunk.specs.TaskState.{TaskState}
 
 -- the processor's answers on the records `lo` to `hi - 1`, in order, without the filtered ones
 unfoldable pub plain_answers : ArtifactsMeaning → (lo hi : ℕ) → List (List ℕ)
@@ -25,7 +25,7 @@ plain_row t =
     committed_row t.row t.row.hi
     (plain_delta (t.row.hi - t.row.at) (length (plain_answers t.artifacts t.row.at t.row.hi)) (left t.row.at t.row.redo t.row.hi t.item_count))
 
--- what was written, and the answers behind it
+-- what was written, and the answers after it
 abbrev pub plain_outputs : TaskState → List (List ℕ)
 plain_outputs t = t.artifacts.writer.written ++ plain_answers t.artifacts t.row.at t.row.hi
 

@@ -1,5 +1,5 @@
 -- Worked rows: what the definitions give for whole partitions, computed apart from the code. Records are the letters a, b,
--- c, .., the processor puts an x before each, and faults are of the class E, whose number is 0, or F, whose number is 1.
+-- c and so on. The processor puts an x before each. Faults are of the class E, whose number is 0, or F, whose number is 1.
 use Rattle.std.specs.Prelude.{◌≡◌, ℕ, ◌==◌, if◌then◌else◌, List, [], ◌∷◌, ◌++◌, codes, Some, None}
 use Rattle.std.proofs.Common.{lit<}
 use Rattle.jb_base.specs.declared.class.ClassId.{ClassId}
@@ -18,7 +18,7 @@ use Rattle.jb_artifacts.specs.Prefix.{prefixed}
 use Rattle.jb_chunk.specs.Alone.{IsAlone}
 use Rattle.jb_chunk.specs.Attempt.{AttemptEnd}
 use Rattle.jb_chunk.specs.Plain.{plain_row, plain_outputs}
-use Rattle.jb_chunk.specs.Standing.{TaskState}
+use Rattle.jb_chunk.specs.TaskState.{TaskState}
 
 -- PARTITIONS
 
@@ -68,7 +68,7 @@ artifacts_from lo reads processes writes = record {
   collector = count_text;
 }
 
--- a partition of the records `lo` to `hi - 1` that has not begun
+-- a partition of the records `lo` to `hi - 1` that has not started
 abbrev pub task : (partition lo hi item_count : ℕ) → RulesRecord → (reads processes writes : FaultTable) → TaskState
 task partition lo hi item_count rules reads processes writes = record {
   partition = partition;
@@ -155,7 +155,7 @@ skipped_in_redo_task =
 abbrev pub repeated_reads_task : TaskState
 repeated_reads_task = task 0 0 2 2 (in_place 3 (two_retries 0 3)) (only 0 (Shaky (class_e ∷ class_f ∷ []))) sound (only 1 (Shaky (class_e ∷ [])))
 
--- a collector that tells all that it sees
+-- a collector that reports all that it sees
 abbrev pub all_seen : RowView → List ℕ
 all_seen view =
     view.partition ∷ view.lo ∷ view.hi ∷ view.at
@@ -185,8 +185,8 @@ seen_at at read write commit last =
 
 -- WHERE THEY LEAD
 
--- what a row says behind its range: checkpoint, redo, retries, results; of its counts what was read and written, the commits and the
--- rollbacks, then skips of reads and of process calls, filtered items, skips of writes; and the repeats in place
+-- What a row says after its range. First checkpoint, redo, retries and results. Then of its counts what was read and written, the
+-- commits and the rollbacks, skips of reads and of process calls, filtered items, skips of writes. Last the repeats in place.
 abbrev pub numbers : Row → List ℕ
 numbers r =
     r.at ∷ r.redo ∷ r.retries ∷ r.written
@@ -241,8 +241,8 @@ NoRecordAlone =
     RunsTo recordless_task
     (0 ∷ 0 ∷ 0 ∷ 0 ∷ 0 ∷ 0 ∷ 0 ∷ 0 ∷ 0 ∷ 0 ∷ 0 ∷ 0 ∷ 0 ∷ []) Finished [] []
 
--- a retry rolls back to single records: of a chunk of four the third can't be processed at first, with a class that is retried; in the
--- redo each record is a chunk of its own
+-- A retry rolls back to single records: of a chunk of four the third can't be processed at first, with a class that is retried. In
+-- the redo each record is a chunk by itself.
 abbrev pub RetryToSingles : Type 0
 RetryToSingles =
     RunsTo retried_task
@@ -250,8 +250,8 @@ RetryToSingles =
     (codes "xa" ∷ codes "xb" ∷ codes "xc" ∷ codes "xd" ∷ [])
     (codes "0:1:1" ∷ codes "0:2:2" ∷ codes "0:3:3" ∷ codes "0:4:4" ∷ codes "0:4:4:end" ∷ [])
 
--- a skip in the single-record redo: of a chunk of two the second can never be processed, with a class that is retried and that is
--- skipped once; retrying comes first, and in the redo the record is skipped
+-- A skip in the single-record redo: of a chunk of two the second can never be processed, with a class that is retried and that is
+-- skipped once. Retrying comes first. In the redo the record is skipped.
 abbrev pub SkipInRedo : Type 0
 SkipInRedo =
     RunsTo skipped_task
@@ -259,8 +259,8 @@ SkipInRedo =
     (codes "xa" ∷ codes "xc" ∷ codes "xd" ∷ [])
     (codes "0:1:1" ∷ codes "0:2:1" ∷ codes "0:4:3" ∷ codes "0:4:3:end" ∷ [])
 
--- one failed partition: two of its records can never be processed, and one may be skipped. The other partition has skips of its
--- own, and goes on.
+-- one failed partition: two of its records can never be processed, and one may be skipped. The other partition has its own skips,
+-- and continues.
 pub record OneFailedAlone : Type 0 where
   pub failed :
       RunsTo failed_task
@@ -271,14 +271,14 @@ pub record OneFailedAlone : Type 0 where
       (6 ∷ 4 ∷ 0 ∷ 2 ∷ 2 ∷ 2 ∷ 1 ∷ 0 ∷ 0 ∷ 0 ∷ 0 ∷ 0 ∷ 0 ∷ []) Finished
       (codes "xe" ∷ codes "xf" ∷ []) (codes "1:6:2" ∷ codes "1:6:2:end" ∷ [])
 
--- a torn write that is skipped: of three results in one call the second can never be written. The first isn't kept either.
+-- a torn write that is skipped: of three results in one call the second can never be written. The first is cut off too.
 abbrev pub TornWrite : Type 0
 TornWrite =
     RunsTo torn_task
     (3 ∷ 0 ∷ 0 ∷ 0 ∷ 3 ∷ 0 ∷ 1 ∷ 0 ∷ 0 ∷ 0 ∷ 0 ∷ 1 ∷ 0 ∷ []) Finished
     [] (codes "0:3:0" ∷ codes "0:3:0:end" ∷ [])
 
--- a write call that fails once behind its first result, with a class that is retried: that result isn't kept, and is written again in
+-- a write call that fails once after its first result, with a class that is retried: that result is cut off, and is written again in
 -- the single-record redo
 abbrev pub WriteRetried : Type 0
 WriteRetried =
@@ -287,7 +287,7 @@ WriteRetried =
     (codes "xa" ∷ codes "xb" ∷ codes "xc" ∷ codes "xd" ∷ [])
     (codes "0:1:1" ∷ codes "0:2:2" ∷ codes "0:4:4" ∷ codes "0:4:4:end" ∷ [])
 
--- the second write call fails behind its first result with E, where F alone is retried and skipped: the partition fails, and keeps
+-- the second write call fails after its first result with E, and F alone is retried and skipped: the partition fails, and keeps
 -- what the first call wrote
 abbrev pub WriteFailed : Type 0
 WriteFailed =
@@ -309,7 +309,7 @@ RetryLimit =
     RunsTo retried_out_task
     (0 ∷ 1 ∷ 2 ∷ 0 ∷ 0 ∷ 0 ∷ 0 ∷ 3 ∷ 0 ∷ 0 ∷ 0 ∷ 0 ∷ 0 ∷ []) Failed [] []
 
--- a read that is skipped: the first record can never be read, and its chunk has the one behind it
+-- a read that is skipped: the first record can never be read, and its chunk has the one after it
 abbrev pub ReadSkip : Type 0
 ReadSkip =
     RunsTo read_skipped_task
@@ -323,15 +323,15 @@ SkippedBeforeWrite =
     RunsTo skipped_and_unwritable_task
     (0 ∷ 0 ∷ 0 ∷ 0 ∷ 0 ∷ 0 ∷ 0 ∷ 1 ∷ 0 ∷ 0 ∷ 0 ∷ 0 ∷ 0 ∷ []) Failed [] []
 
--- a skip is forgotten with the chunk that is rolled back: the only one that is allowed is taken by a read, then a process call of the
--- chunk fails with F, which is retried; in the redo the same read takes it again
+-- A skip is forgotten with the chunk that is rolled back. A read takes the only one that is allowed. Then a process call of the chunk
+-- fails with F, which is retried. In the redo the same read takes the skip again.
 abbrev pub RolledBackSkip : Type 0
 RolledBackSkip =
     RunsTo rolled_back_task
     (3 ∷ 2 ∷ 1 ∷ 2 ∷ 2 ∷ 2 ∷ 3 ∷ 1 ∷ 1 ∷ 0 ∷ 0 ∷ 0 ∷ 0 ∷ []) Finished
     (codes "xb" ∷ codes "xc" ∷ []) (codes "0:1:0" ∷ codes "0:2:1" ∷ codes "0:3:2" ∷ codes "0:3:2:end" ∷ [])
 
--- a repeat in place: the third of four process calls fails once, and is made again; the chunk goes on
+-- a repeat in place: the third of four process calls fails once, and is made again; the chunk continues
 abbrev pub Repeat : Type 0
 Repeat =
     RunsTo repeated_task
@@ -344,7 +344,7 @@ RepeatLimit =
     RunsTo repeated_out_task
     (0 ∷ 0 ∷ 2 ∷ 0 ∷ 0 ∷ 0 ∷ 0 ∷ 1 ∷ 0 ∷ 0 ∷ 0 ∷ 0 ∷ 2 ∷ []) Failed [] []
 
--- a write that is repeated: the call fails once behind its first result, which is cut back before all three are written
+-- a write that is repeated: the call fails once after its first result, which is cut back before all three are written
 abbrev pub RepeatedWrite : Type 0
 RepeatedWrite =
     RunsTo repeated_write_task
@@ -366,22 +366,22 @@ RepeatedThenSkipped =
     (4 ∷ 0 ∷ 2 ∷ 3 ∷ 4 ∷ 3 ∷ 2 ∷ 0 ∷ 0 ∷ 1 ∷ 0 ∷ 0 ∷ 2 ∷ []) Finished
     (codes "xa" ∷ codes "xc" ∷ codes "xd" ∷ []) (codes "0:2:1" ∷ codes "0:4:3" ∷ codes "0:4:3:end" ∷ [])
 
--- a skip before a repeat stands: the chunk's first read is skipped, and the process call of its other record is repeated
+-- a skip before a repeat still counts: the chunk's first read is skipped, and the process call of its other record is repeated
 abbrev pub SkippedAndRepeated : Type 0
 SkippedAndRepeated =
     RunsTo skipped_and_repeated_task
     (3 ∷ 0 ∷ 1 ∷ 2 ∷ 2 ∷ 2 ∷ 2 ∷ 0 ∷ 1 ∷ 0 ∷ 0 ∷ 0 ∷ 1 ∷ []) Finished
     (codes "xb" ∷ codes "xc" ∷ []) (codes "0:2:1" ∷ codes "0:3:2" ∷ codes "0:3:2:end" ∷ [])
 
--- in the single-record redo a fault is skipped before it is repeated: a fault F rolled the block back; E, which the other record meets
--- in the redo, may be skipped and may be repeated, and is skipped
+-- In the single-record redo skipping comes before repeating. A fault F rolled the block back. E, which the other record meets in the
+-- redo, may be skipped and may be repeated, and is skipped.
 abbrev pub SkippedInRedo : Type 0
 SkippedInRedo =
     RunsTo skipped_in_redo_task
     (2 ∷ 2 ∷ 1 ∷ 1 ∷ 2 ∷ 1 ∷ 2 ∷ 1 ∷ 0 ∷ 1 ∷ 0 ∷ 0 ∷ 0 ∷ []) Finished
     (codes "xa" ∷ []) (codes "0:1:1" ∷ codes "0:2:1" ∷ codes "0:2:1:end" ∷ [])
 
--- two repeats of one read are all that the retry limit has: the write that fails behind them fails the partition
+-- two repeats of one read are all that the retry limit has: the write that fails after them fails the partition
 abbrev pub RepeatedReads : Type 0
 RepeatedReads =
     RunsTo repeated_reads_task

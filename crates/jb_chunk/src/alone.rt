@@ -4,7 +4,7 @@ ghost use Rattle.std.specs.Prelude.{◌≡◌, ◌+◌, ◌<◌, ◌≤◌};
 ghost use Rattle.jb_base.specs.Limits.{max_retry_limit, max_rollbacks, max_in_place};
 ghost use Rattle.jb_rules.specs.declared.row.RowState.TheVariants.{Waiting};
 ghost use Rattle.jb_chunk.specs.Alone.{EndsAlone, KeepsPlain};
-ghost use Rattle.jb_chunk.specs.Standing.{IsReady};
+ghost use Rattle.jb_chunk.specs.TaskState.{IsReady};
 
 use crate::outcome::{Done, Outcome};
 use crate::partition_task::PartitionTask;
@@ -35,13 +35,13 @@ pub struct Alone<T = Task> {
 /// Attempts one chunk after another, until no record is left, the partition fails, or a chunk finds no memory. The
 /// collector's texts are dropped.
 pub fn run_alone<T: PartitionTask>(alloc: Global, task: T) -> Alone<T>
-    requires waiting { (T.standing task).row.state ≡ Waiting }
-    requires room { (T.standing task).row.counts.rollback + max_retry_limit < max_rollbacks }
-    requires repeats { (T.standing task).row.in_place + max_retry_limit ≤ max_in_place }
-    requires ready { IsReady (T.standing task) }
-    ensures alone { EndsAlone (T.standing task) result.end (T.standing result.task) }
-    ensures plain { KeepsPlain (T.standing task) result.end (T.standing result.task) }
-    ensures ready { IsReady (T.standing result.task) }
+    requires waiting { (T.task_state task).row.state ≡ Waiting }
+    requires room { (T.task_state task).row.counts.rollback + max_retry_limit < max_rollbacks }
+    requires repeats { (T.task_state task).row.in_place + max_retry_limit ≤ max_in_place }
+    requires ready { IsReady (T.task_state task) }
+    ensures alone { EndsAlone (T.task_state task) result.end (T.task_state result.task) }
+    ensures plain { KeepsPlain (T.task_state task) result.end (T.task_state result.task) }
+    ensures ready { IsReady (T.task_state result.task) }
 {
     chunks_follow_one_another();
     let mut task = task;

@@ -6,7 +6,7 @@ ghost use Rattle.jb_rules.specs.Rows.{row_block};
 ghost use Rattle.jb_rules.specs.Sound.{IsSoundRow};
 ghost use Rattle.jb_chunk.specs.Attempt.{counts_with, end_by, row_after, all_repeated};
 ghost use Rattle.jb_chunk.specs.inside.Gathering.{IsSmallTally, yield_of};
-ghost use Rattle.jb_chunk.specs.Standing.{HasItemCount, HasRepeats};
+ghost use Rattle.jb_chunk.specs.TaskState.{HasItemCount, HasRepeats};
 ghost use Rattle.jb_chunk.specs.inside.Repeats.{IsFinishAfter, IsTornWrite};
 ghost use Rattle.jb_chunk.specs.inside.TriedChunk.{OfTask, IsTried, IsTorn};
 
@@ -31,7 +31,7 @@ fn end_by_choice(choice: Choice, class: ClassId, skipped: Counts) -> Outcome
     }
 }
 
-/// What a chunk of so many records, with so many results, adds to the counts that is committed.
+/// What a committed chunk of so many records, with so many results, adds to the counts.
 fn counts_with(records: u64, tally: &Tally, results: u64, written: u64, write_skips: u64) -> Counts
     requires skips { tally.now.skips + results ≤ records }
     requires reads { tally.now.read_skips ≤ tally.now.skips }
@@ -49,7 +49,7 @@ fn counts_with(records: u64, tally: &Tally, results: u64, written: u64, write_sk
     }
 }
 
-/// Opens the reader again at the checkpoint, where the chunk, up to `hi`, isn't committed.
+/// Opens the reader again at the checkpoint, if the chunk, up to `hi`, isn't committed.
 fn reopen<A: PartitionArtifacts>(artifacts: &mut A, end: Outcome, row: &Row, hi: u64)
     requires place { (A.meaning artifacts.old).reader.place ≡ hi }
     requires from { (A.meaning artifacts.old).reader.first ≤ row.now.at }
@@ -88,7 +88,7 @@ pub fn try_block<A: PartitionArtifacts>(
     let block = row.block(item_count);
     let mut results = artifacts.take_results(alloc, block.hi - block.lo)?;
     let end = try_records(artifacts, rules, row, item_count, &mut results);
-    // After the partition's last chunk nothing is kept: a finished partition holds its outputs alone.
+    // After the partition's last chunk the results are dropped: a finished partition holds its outputs alone.
     if block.hi < row.hi {
         artifacts.keep_results(results);
     }

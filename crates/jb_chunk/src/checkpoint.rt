@@ -2,7 +2,7 @@
 
 ghost use Rattle.std.specs.Prelude.{◌≡◌, ◌≤◌, length};
 ghost use Rattle.jb_artifacts.specs.Reader.{reader_end};
-ghost use Rattle.jb_chunk.specs.Standing.{at_checkpoint};
+ghost use Rattle.jb_chunk.specs.TaskState.{at_checkpoint};
 
 use crate::partition_artifacts::PartitionArtifacts;
 use jb_rules::Row;

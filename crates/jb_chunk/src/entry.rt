@@ -6,7 +6,7 @@ ghost use Rattle.jb_chunk.specs.inside.Gathering.{entry_with};
 
 use jb_base::ClassId;
 
-/// What becomes of a record, before its fault is settled. Its result, if it has one, stands behind the chunk's others.
+/// What becomes of a record, before its fault is settled. Its result, if it has one, is after the chunk's others.
 #[derive(Clone, Copy, Debug, PartialEq, Eq)]
 pub enum EntryKind {
     /// Its read failed.

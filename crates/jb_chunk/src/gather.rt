@@ -6,7 +6,7 @@ ghost use Rattle.jb_rules.specs.Sound.{IsSoundRow};
 ghost use Rattle.jb_rules.specs.Rows.{row_block, skips_of};
 ghost use Rattle.jb_chunk.specs.Entries.{Entry};
 ghost use Rattle.jb_chunk.specs.inside.Gathering.{IsWornTo, IsGatheringStep, IsSmallTally, yield_of};
-ghost use Rattle.jb_chunk.specs.Standing.{HasItemCount, HasRepeats};
+ghost use Rattle.jb_chunk.specs.TaskState.{HasItemCount, HasRepeats};
 ghost use Rattle.jb_chunk.specs.inside.Repeats.{IsDone, IsEntered, IsGathered};
 ghost use Rattle.jb_chunk.specs.inside.TriedChunk.{OfTask, IsTorn};
 
@@ -29,7 +29,7 @@ pub enum Gathered {
 }
 
 /// Reads the record at the reader's place and processes it, each again after a fault that is repeated in place. Its result, if
-/// it has one, is put behind the others.
+/// it has one, is put after the others.
 fn read_and_process<A: PartitionArtifacts>(
     artifacts: &mut A,
     rules: &Rules,

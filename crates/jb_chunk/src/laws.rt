@@ -5,7 +5,7 @@ ghost use Rattle.jb_chunk.specs.Laws.{OneEnd, CalmRunsArePlain, RunsAreShort, Re
 use jb_plan::chunks_follow_one_another;
 use jb_rules::rows_stay_sound;
 
-/// A task that runs alone ends in one place, so the place depends on no thread and no other partition. Where no call
+/// A task that runs alone ends in one place, so the place depends on no thread and no other partition. If no call
 /// fails, it is the place of its Plain run.
 pub fn runs_end_alike()
     ensures one { OneEnd }
@@ -14,8 +14,8 @@ pub fn runs_end_alike()
     chunks_follow_one_another();
 }
 
-/// A run has no more attempts than there are retries and records left, and no more repeats in place and rollbacks together
-/// than there are retries left; two runs, one behind the other, are one; and one to an end is a run alone.
+/// A run has no more attempts than there are retries and records left. Its repeats in place and rollbacks together are no more
+/// than there are retries left. Two runs, one after the other, are one. A run to an end is a run alone.
 pub fn runs_lead_to_an_end()
     ensures short { RunsAreShort }
     ensures retries { RetriesAreFew }
@@ -25,7 +25,7 @@ pub fn runs_lead_to_an_end()
     chunks_follow_one_another();
 }
 
-/// A task that is taken up again after any of its attempts is where it was, and ends where it would have ended.
+/// A task that resumes after any of its attempts is where it was, and ends where it would have ended.
 pub fn tasks_go_on()
     ensures place { SamePlace }
     ensures end { SameEnd }
@@ -41,8 +41,8 @@ pub fn tasks_stay_ready()
     rows_stay_sound();
 }
 
-/// Wherever its attempts lead, a task stands at its checkpoint: its reader there, with as many results as its row says,
-/// and while it waits with a chunk that has a record and lies in its range.
+/// Wherever its attempts lead, a task is at its checkpoint: its reader is there, and as many results are written as its row
+/// says. While it waits its next chunk has a record and is in its range.
 pub fn tasks_stand_at_checkpoints()
     ensures { TasksStandAtCheckpoints }
 {
@@ -59,8 +59,8 @@ pub fn attempts_are_steps()
     chunks_follow_one_another();
 }
 
-/// Where no class is to roll nothing back, no call is repeated in place: an attempt is that of the block as it stands, and
-/// leaves the row's number of repeats as it was.
+/// If `no_rollback` has no class, no call is repeated in place. An attempt is that of the block as it is, and leaves the
+/// row's number of repeats as it was.
 pub fn repeats_need_a_class()
     ensures attempt { AttemptsWithoutRepeats }
     ensures row { RepeatsStay }

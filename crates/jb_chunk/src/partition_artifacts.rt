@@ -19,13 +19,13 @@ use std::alloc::{AllocError, Global};
 /// A partition's reader, processor, writer and collector as one: those of known types or in boxes, `ArtifactsOf`; those
 /// that lend their records, `PackedArtifacts`; and such in one box, `BoxedArtifacts`.
 pub trait PartitionArtifacts: Meaning + Drop {
-    /// What a read gives: the record's bytes, or nothing, where the reader keeps them and lends them.
+    /// What a read gives: the record's bytes, or nothing, if the reader keeps them and lends them.
     type Record: Drop;
 
     /// The results of a chunk.
     type Results: ChunkResults;
 
-    // what bytes a record stands for, where these are its reader's
+    // the bytes that a record means, if `own` are its reader's
     ghost bytes: { Self.Record → (own : List ℕ) → List ℕ };
 
     /// Whether the reader has the row's records, and the writer as many results as it committed.
@@ -66,7 +66,7 @@ pub trait PartitionArtifacts: Meaning + Drop {
             IfFault result (λ class. (read_fault w.reader ≡ Some class) × (Self.meaning self.new ≡ record w { reader = after_read w.reader })) }
         ensures no_memory { IfNoMemory result (Self.meaning self.new ≡ Self.meaning self.old) };
 
-    /// Processes an item, that of the record with this number. Its result, if it has one, is put behind the others, and
+    /// Processes an item, that of the record with this number. Its result, if it has one, is put after the others, and
     /// the answer says whether it has. After a fault, and without memory, the results are as they were.
     fn process_item(
         &mut self,
@@ -105,7 +105,7 @@ pub trait PartitionArtifacts: Meaning + Drop {
     fn collect(&self, view: &RowView) -> Result<Item, AllocError>
         ensures { IfOk result (λ text. text ≡ (Self.meaning self.now).collector view.now) };
 
-    /// No results, with room for so many where none were kept.
+    /// No results, with room for so many if no results were stored before.
     fn take_results(&mut self, alloc: Global, number: u64) -> Result<Self::Results, AllocError>
         ensures none { IfOk result (λ results. Self.Results.pairs results ≡ []) }
         ensures same { Self.meaning self.new ≡ Self.meaning self.old }
@@ -113,13 +113,13 @@ pub trait PartitionArtifacts: Meaning + Drop {
         Self::Results::with_room(alloc, number)
     }
 
-    /// Takes the results of a chunk that has ended, whose memory may be kept for the next.
+    /// Takes the results of a chunk that has ended. Their memory may be stored for the next chunk.
     fn keep_results(&mut self, _results: Self::Results)
         ensures { Self.meaning self.new ≡ Self.meaning self.old }
     {}
 }
 
-/// Puts the result that a processor answered for the record of this number behind the others, where there is one.
+/// Puts the result that a processor answered for the record of this number after the others, if there is one.
 fn put_behind(
     number: u64,
     answer: Result<Option<Item>, ArtifactError>,

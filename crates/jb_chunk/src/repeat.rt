@@ -6,7 +6,7 @@ ghost use Rattle.jb_artifacts.specs.Reader.{reader_end, record_at};
 ghost use Rattle.jb_artifacts.specs.Writer.{write_fault, after_write, torn_write};
 ghost use Rattle.jb_rules.specs.Sound.{IsSoundRow};
 ghost use Rattle.jb_chunk.specs.Block.{repeats};
-ghost use Rattle.jb_chunk.specs.Standing.{HasRepeats};
+ghost use Rattle.jb_chunk.specs.TaskState.{HasRepeats};
 ghost use Rattle.jb_chunk.specs.inside.Repeats.{seen_as, fault_answered, results_behind, IsRead, IsProcessed, IsPut};
 
 use crate::chunk_results::ChunkResults;
@@ -27,7 +27,7 @@ fn is_repeated<T>(rules: &Rules, row: &Row, skips: u64, answer: &Result<T, Artif
     }
 }
 
-/// Reads the record of this number, at which the reader stands, again after each fault that is repeated in place. The row
+/// Reads the record of this number, which is the reader's next, again after each fault that is repeated in place. The row
 /// counts the repeats.
 pub fn read_in_place<A: PartitionArtifacts>(
     artifacts: &mut A,
@@ -58,7 +58,7 @@ pub fn read_in_place<A: PartitionArtifacts>(
 }
 
 /// Processes the item of the record of this number, again after each fault that is repeated in place. Its result, if it has
-/// one, is put behind the others. The row counts the repeats.
+/// one, is put after the others. The row counts the repeats.
 pub fn process_in_place<A: PartitionArtifacts>(
     artifacts: &mut A,
     rules: &Rules,
@@ -90,7 +90,7 @@ pub fn process_in_place<A: PartitionArtifacts>(
     }
 }
 
-/// Writes the results, where there are any.
+/// Writes the results, if there are any.
 fn write_found<A: PartitionArtifacts>(
     artifacts: &mut A,
     results: &A::Results,
@@ -114,7 +114,7 @@ fn write_found<A: PartitionArtifacts>(
     artifacts.write_items(results)
 }
 
-/// Writes the results, where there are any, again after each fault that is repeated in place: what a failing call wrote is
+/// Writes the results, if there are any, again after each fault that is repeated in place. What a failing call wrote is
 /// cut back before. The row counts the repeats.
 pub fn write_in_place<A: PartitionArtifacts>(
     artifacts: &mut A,

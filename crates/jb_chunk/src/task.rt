@@ -8,7 +8,7 @@ ghost use Rattle.jb_chunk.specs.Attempt.{row_after, values_of};
 ghost use Rattle.jb_chunk.specs.inside.TriedChunk.{HasDelta};
 ghost use Rattle.jb_chunk.specs.declared.outcome.Outcome.TheVariants.{Committed, NoMemory};
 ghost use Rattle.jb_artifacts.specs.Reader.{reader_end};
-ghost use Rattle.jb_chunk.specs.Standing.{at_checkpoint};
+ghost use Rattle.jb_chunk.specs.TaskState.{at_checkpoint};
 
 use crate::block::try_block;
 use crate::checkpoint::open_at_checkpoint;
@@ -33,7 +33,7 @@ pub struct Task<A = Artifacts> {
 impl<A: PartitionArtifacts + Send> PartitionTask for Task<A> {
     type Artifacts = A;
 
-    ghost standing = { λ t. record {
+    ghost task_state = { λ t. record {
       partition = t.partition;
       row = t.row;
       rules = t.rules;
@@ -66,7 +66,7 @@ impl<A: PartitionArtifacts + Send> PartitionTask for Task<A> {
     }
 
     fn is_ready(&self) -> bool {
-        // Reading the limit tells the proof how high it may be.
+        // Unused, but it brings the limit's invariant into the proof.
         let _limit = self.rules.retry_limit;
         self.row.sound()
             && 1 <= self.item_count
@@ -174,7 +174,7 @@ fn collect_values<A: PartitionArtifacts>(
     Ok(values)
 }
 
-/// Reader and writer stand at the checkpoint again, and the row is as it was.
+/// Reader and writer are at the checkpoint again, and the row is as it was.
 fn unfinished<A: PartitionArtifacts>(
     alloc: Global,
     partition: u32,

@@ -7,12 +7,12 @@ use Rattle.jb_rules.specs.declared.row.RowState.TheVariants as state
 use Rattle.jb_chunk.specs.Attempt.{AttemptEnd}
 use Rattle.jb_collect.specs.declared.calls.AnalyzerCall.{AnalyzerCall}
 use Rattle.jb_collect.specs.declared.calls.AnalyzerCall.TheVariants.{Collected}
-use Rattle.jb_collect.specs.Heard.{collected_calls, ended_calls, heard_of, heard_in, partition_told}
+use Rattle.jb_collect.specs.Heard.{collected_calls, ended_calls, heard_of, heard_in, partition_heard}
 use Rattle.jb_collect.specs.Laws.{PartitionsAreHeardApart}
 
 -- the calls of partition p
 abbrev own : ℕ → List AnalyzerCall → List AnalyzerCall
-own p calls = filter (λ call. eqb (partition_told call) p) calls
+own p calls = filter (λ call. eqb (partition_heard call) p) calls
 
 -- all of some calls, or none
 abbrev all_if : Bool → List AnalyzerCall → List AnalyzerCall
@@ -45,7 +45,7 @@ own_ended p q state.Failed = refl
 own_heard : (p : ℕ) (e : AttemptEnd) → own p (heard_of e) ≡ all_if (eqb e.task.partition p) (heard_of e)
 own_heard p e =
     let q : ℕ = e.task.partition in
-    filter-append (λ (call : AnalyzerCall). eqb (partition_told call) p) (collected_calls q e.values) (ended_calls q e.task.row.state)
+    filter-append (λ (call : AnalyzerCall). eqb (partition_heard call) p) (collected_calls q e.values) (ended_calls q e.task.row.state)
     ∙ ap₂ ◌++◌ (own_collected p q e.values) (own_ended p q e.task.row.state)
     ∙ all_if-append (eqb q p) (collected_calls q e.values) (ended_calls q e.task.row.state)
 
@@ -57,6 +57,6 @@ heard_more false e es = refl
 pub heard_apart : PartitionsAreHeardApart
 heard_apart p [] = refl
 heard_apart p (e ∷ es) =
-    filter-append (λ (call : AnalyzerCall). eqb (partition_told call) p) (heard_of e) (heard_in es)
+    filter-append (λ (call : AnalyzerCall). eqb (partition_heard call) p) (heard_of e) (heard_in es)
     ∙ ap₂ ◌++◌ (own_heard p e) (heard_apart p es)
     ∙ heard_more (eqb e.task.partition p) e (filter (λ (x : AttemptEnd). eqb x.task.partition p) es)

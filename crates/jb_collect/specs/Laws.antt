@@ -5,16 +5,16 @@ use Rattle.jb_base.specs.declared.class.ClassId.{ClassId}
 use Rattle.jb_chunk.specs.Attempt.{AttemptEnd}
 use Rattle.jb_collect.specs.declared.calls.AnalyzerCall.{AnalyzerCall}
 use Rattle.jb_collect.specs.Heard.{calls_about, heard_in}
-use Rattle.jb_collect.specs.Taken.{Taken, HasTaken, HasTakenSome, well, faulted}
+use Rattle.jb_collect.specs.AnsweredCalls.{AnsweredCall, HasTaken, HasTakenSome, well, faulted}
 
 -- WHICH CALLS WERE TAKEN
 
--- where no fault was answered: all of them, well
+-- if no fault was answered: all of them, well
 abbrev pub AllAreTaken : Type 0
-AllAreTaken = (before after : List (Taken AnalyzerCall)) (calls : List AnalyzerCall) → HasTaken before calls None after → after ≡ before ++ map well calls
+AllAreTaken = (before after : List (AnsweredCall AnalyzerCall)) (calls : List AnalyzerCall) → HasTaken before calls None after → after ≡ before ++ map well calls
 
--- where one was: the first of them, the last one of these with the fault
-pub record AreTakenUpTo (before : List (Taken AnalyzerCall)) (calls : List AnalyzerCall) (class : ClassId) (after : List (Taken AnalyzerCall)) : Type 0 where
+-- if one was: the first of them, the last one of these with the fault
+pub record AreTakenUpTo (before : List (AnsweredCall AnalyzerCall)) (calls : List AnalyzerCall) (class : ClassId) (after : List (AnsweredCall AnalyzerCall)) : Type 0 where
   pub first : List AnalyzerCall
   pub last : AnalyzerCall
   pub rest : List AnalyzerCall
@@ -23,24 +23,24 @@ pub record AreTakenUpTo (before : List (Taken AnalyzerCall)) (calls : List Analy
 
 abbrev pub TakenUpToTheFault : Type 0
 TakenUpToTheFault =
-    (before after : List (Taken AnalyzerCall)) (calls : List AnalyzerCall) (class : ClassId) → HasTaken before calls (Some class) after
+    (before after : List (AnsweredCall AnalyzerCall)) (calls : List AnalyzerCall) (class : ClassId) → HasTaken before calls (Some class) after
     → AreTakenUpTo before calls class after
 
 -- without memory: the first of them, well
 abbrev pub SomeAreTaken : Type 0
 SomeAreTaken =
-    (before after : List (Taken AnalyzerCall)) (calls : List AnalyzerCall) (some : HasTakenSome before calls after) → after ≡ before ++ map well some.first
+    (before after : List (AnsweredCall AnalyzerCall)) (calls : List AnalyzerCall) (some : HasTakenSome before calls after) → after ≡ before ++ map well some.first
 
 -- ONE AFTER ANOTHER
 
 abbrev pub TakenOneAfterAnother : Type 0
 TakenOneAfterAnother =
-    (before between after : List (Taken AnalyzerCall)) (calls later : List AnalyzerCall) (fault : Option ClassId) → HasTaken before calls None between
+    (before between after : List (AnsweredCall AnalyzerCall)) (calls later : List AnalyzerCall) (fault : Option ClassId) → HasTaken before calls None between
     → HasTaken between later fault after → HasTaken before (calls ++ later) fault after
 
 abbrev pub NoneAfterAFault : Type 0
 NoneAfterAFault =
-    (before after : List (Taken AnalyzerCall)) (calls later : List AnalyzerCall) (class : ClassId) → HasTaken before calls (Some class) after
+    (before after : List (AnsweredCall AnalyzerCall)) (calls later : List AnalyzerCall) (class : ClassId) → HasTaken before calls (Some class) after
     → HasTaken before (calls ++ later) (Some class) after
 
 -- WHAT IS HEARD OF A PARTITION

@@ -1,4 +1,4 @@
-pub mod Taken
+pub mod AnsweredCalls
 pub mod Listed
 pub mod Heard
 pub mod ReducerCalls

@@ -2,7 +2,7 @@
 use Rattle.std.specs.Prelude.{◌≡◌, ℕ, Bool, true, false, Some, None, List, [], ◌∷◌, codes, map}
 use Rattle.jb_rules.specs.declared.row.Row.{Row}
 use Rattle.jb_chunk.specs.Attempt.{attempt_of}
-use Rattle.jb_chunk.specs.Standing.{TaskState}
+use Rattle.jb_chunk.specs.TaskState.{TaskState}
 use Rattle.jb_chunk.specs.Worked.{class_e, strict, sound, task, first_task, second_task, recordless_task, failed_task, beside_failed_task, retried_task}
 use Rattle.jb_collect.specs.declared.calls.Status.{Status}
 use Rattle.jb_collect.specs.declared.calls.Status.TheVariants.{Stopped, Failed, Completed}
@@ -11,9 +11,9 @@ use Rattle.jb_collect.specs.declared.calls.AnalyzerCall.TheVariants as call
 use Rattle.jb_collect.specs.declared.calls.ReducerCall.TheVariants.{Begin, Before, Rollback, After}
 use Rattle.jb_collect.specs.declared.calls.PartitionStatus.TheVariants as end
 use Rattle.jb_collect.specs.Heard.{heard_of, heard_by}
-use Rattle.jb_collect.specs.Listed.{taken_of}
+use Rattle.jb_collect.specs.Listed.{answered_calls_of}
 use Rattle.jb_collect.specs.ReducerCalls.{before_failed, reducer_calls}
-use Rattle.jb_collect.specs.Taken.{AreTaken, well, faulted}
+use Rattle.jb_collect.specs.AnsweredCalls.{AreTaken, well, faulted}
 
 abbrev pub text : ℕ → List ℕ → AnalyzerCall
 text partition letters = call.Collected partition letters
@@ -91,11 +91,11 @@ pub record CallsTaken : Type 0 where
 
 -- a list of calls of which the second fails, and one that would fail later
 pub record ListedCalls : Type 0 where
-  pub second : taken_of (record { calls = one ∷ two ∷ []; fault = Some (1, class_e) }) ≡ well one ∷ faulted two class_e ∷ []
-  pub later : taken_of (record { calls = one ∷ two ∷ []; fault = Some (2, class_e) }) ≡ well one ∷ well two ∷ []
-  pub never : taken_of (record { calls = one ∷ two ∷ []; fault = None }) ≡ well one ∷ well two ∷ []
+  pub second : answered_calls_of (record { calls = one ∷ two ∷ []; fault = Some (1, class_e) }) ≡ well one ∷ faulted two class_e ∷ []
+  pub later : answered_calls_of (record { calls = one ∷ two ∷ []; fault = Some (2, class_e) }) ≡ well one ∷ well two ∷ []
+  pub never : answered_calls_of (record { calls = one ∷ two ∷ []; fault = None }) ≡ well one ∷ well two ∷ []
 
--- THE REDUCER'S CALLS, in all cases: an earlier run's results are kept or discarded
+-- THE REDUCER'S CALLS, in all cases: an earlier run's results stay or are discarded
 pub record ReducerCalls : Type 0 where
   pub begin_fails : (overrides : Bool) (stands : Status) (fails : Bool) → reducer_calls false overrides stands fails ≡ Begin ∷ []
   pub completed : reducer_calls true false Completed false ≡ Begin ∷ Before ∷ After end.Commit ∷ []

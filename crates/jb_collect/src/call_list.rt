@@ -1,8 +1,8 @@
 //! A list of calls, one of which may be answered with a fault.
 
 ghost use Rattle.std.specs.Prelude.{◌≡◌, []};
-ghost use Rattle.jb_collect.specs.Listed.{planned_at, answer_with, taken_of};
-ghost use Rattle.jb_collect.specs.Taken.{TakesCall};
+ghost use Rattle.jb_collect.specs.Listed.{planned_at, answer_with, answered_calls_of};
+ghost use Rattle.jb_collect.specs.AnsweredCalls.{TakesCall};
 
 use jb_base::{ArtifactError, ClassId};
 use std::alloc::Global;
@@ -37,7 +37,7 @@ impl<C: Drop> CallList<C> {
 
     /// Takes a call.
     pub(crate) fn take(&mut self, call: C) -> Result<(), ArtifactError>
-        ensures taken { TakesCall (taken_of self.old) call result (taken_of self.new) }
+        ensures taken { TakesCall (answered_calls_of self.old) call result (answered_calls_of self.new) }
         ensures planned { self.new.fault ≡ self.old.fault }
     {
         let fault = self.fault_at(self.calls.len() as u64);

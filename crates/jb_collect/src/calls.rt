@@ -2,7 +2,7 @@
 
 use jb_artifacts::Item;
 
-/// How a step or a partition stands (Jakarta Batch 2.1, "Batch and Exit Status"; of its statuses, those that a step shows
+/// The status of a step or a partition (Jakarta Batch 2.1, "Batch and Exit Status"; of its statuses, those that a step shows
 /// here).
 #[derive(Clone, Copy, Debug, PartialEq, Eq)]
 pub enum Status {

@@ -1,9 +1,9 @@
-//! What an analyzer is told of a round.
+//! What an analyzer hears of a round.
 
 ghost use Rattle.std.specs.Prelude.{◌++◌};
 ghost use Rattle.jb_chunk.specs.Attempt.{ending_of};
 ghost use Rattle.jb_collect.specs.Heard.{heard_of, heard_in, endings_of, collected_calls, ended_calls};
-ghost use Rattle.jb_collect.specs.Taken.{TakesCalls};
+ghost use Rattle.jb_collect.specs.AnsweredCalls.{TakesCalls};
 
 use crate::calls::Status;
 use crate::interfaces::Analyzer;
@@ -12,17 +12,17 @@ use jb_base::ArtifactError;
 use jb_chunk::{Done, PartitionTask};
 use jb_rules::RowState;
 
-/// Tells the analyzer of the attempts of one round, given by rising partition (Jakarta Batch 2.1, "Partition Analyzer"; the
-/// order is this project's choice): of each attempt its collected texts, and then, where the partition ended with it,
-/// COMPLETED or FAILED.
+/// Reports the attempts of one round to the analyzer, given by rising partition (Jakarta Batch 2.1, "Partition Analyzer"; the
+/// order is this project's choice). For each attempt it reports the collected texts. If the partition ended with the attempt,
+/// it then reports COMPLETED or FAILED.
 ///
 /// # Errors
-/// The analyzer's first fault, after which it is called no more; or `Memory`, where it had none for a call.
+/// The analyzer's first fault, after which it is called no more; or `Memory`, if it had none for a call.
 pub fn deliver<T: PartitionTask>(
     dones: &[Done<T>],
     analyzer: &mut dyn Analyzer,
 ) -> Result<(), ArtifactError>
-    ensures { TakesCalls (analyzed analyzer.old) (heard_in (endings_of T.standing dones.now)) result (analyzed analyzer.new) }
+    ensures { TakesCalls (analyzed analyzer.old) (heard_in (endings_of T.task_state dones.now)) result (analyzed analyzer.new) }
 {
     for done in dones {
         tell_done(done, analyzer)?;
@@ -30,7 +30,7 @@ pub fn deliver<T: PartitionTask>(
     Ok(())
 }
 
-/// Tells the analyzer of one attempt, as `deliver` does of each, and hands its texts over: none is copied.
+/// Reports one attempt to the analyzer, as `deliver` does each, and hands its texts over: none is copied.
 ///
 /// # Errors
 /// Those of `deliver`.
@@ -39,7 +39,7 @@ pub fn deliver_one<T: PartitionTask>(
     texts: Vec<Item>,
     analyzer: &mut dyn Analyzer,
 ) -> Result<(), ArtifactError>
-    ensures { let t = T.standing task.now in
+    ensures { let t = T.task_state task.now in
         TakesCalls (analyzed analyzer.old) (collected_calls t.partition texts.items ++ ended_calls t.partition t.row.state) result (analyzed analyzer.new) }
 {
     let partition = task.partition();
@@ -66,7 +66,7 @@ fn tell_done<T: PartitionTask>(
     done: &Done<T>,
     analyzer: &mut dyn Analyzer,
 ) -> Result<(), ArtifactError>
-    ensures { TakesCalls (analyzed analyzer.old) (heard_of (ending_of (T.standing done.now.task) done.now.outcome done.now.values.items done.now.again)) result (analyzed analyzer.new) }
+    ensures { TakesCalls (analyzed analyzer.old) (heard_of (ending_of (T.task_state done.now.task) done.now.outcome done.now.values.items done.now.again)) result (analyzed analyzer.new) }
 {
     let partition = done.task.partition();
     tell_texts(partition, done.values.as_slice(), analyzer)?;
@@ -87,7 +87,7 @@ fn tell_texts(
     Ok(())
 }
 
-// How a partition ended, where it has.
+// How a partition ended, if it has.
 fn tell_end(
     partition: u32,
     state: RowState,

@@ -1,7 +1,7 @@
 //! An analyzer and a reducer that keep the list of their calls, and never fail.
 
 ghost use Rattle.std.specs.Prelude.{◌≡◌, [], map};
-ghost use Rattle.jb_collect.specs.Taken.{well};
+ghost use Rattle.jb_collect.specs.AnsweredCalls.{well};
 
 use crate::calls::{AnalyzerCall, PartitionStatus, ReducerCall, Status};
 use crate::interfaces::{Analyzer, Reducer};

@@ -1,29 +1,29 @@
 //! The interfaces of a partition analyzer and a partition reducer, after Jakarta Batch 2.1. What such an object means is
-//! the list of the calls that it took, each with the fault that it answered, if it did. A call that is answered with want
-//! of memory is not taken, and changes nothing.
+//! the list of the calls that it took, each with the fault that it answered, if it did. A call that is answered with
+//! out of memory is not taken, and changes nothing.
 //!
-//! No function takes an allocator: an object keeps its own.
+//! No function takes an allocator: an object has its own.
 
 ghost use Rattle.std.specs.Prelude.{◌≡◌, List};
 ghost use Rattle.jb_collect.specs.declared.calls.AnalyzerCall.{AnalyzerCall};
 ghost use Rattle.jb_collect.specs.declared.calls.AnalyzerCall.TheVariants as analyzer;
 ghost use Rattle.jb_collect.specs.declared.calls.ReducerCall.{ReducerCall};
 ghost use Rattle.jb_collect.specs.declared.calls.ReducerCall.TheVariants as reducer;
-ghost use Rattle.jb_collect.specs.Taken.{Taken, TakesCall, calls_of};
+ghost use Rattle.jb_collect.specs.AnsweredCalls.{AnsweredCall, TakesCall, calls_of};
 
 use crate::calls::{AnalyzerCall, PartitionStatus, ReducerCall, Status};
 use jb_artifacts::Item;
 use jb_base::ArtifactError;
 
-/// A partition analyzer: it is told what the partitions collected and how they ended.
+/// A partition analyzer: it hears what the partitions collected and how they ended.
 pub trait Analyzer {
-    ghost analyzed: { Self → List (Taken AnalyzerCall) };
+    ghost analyzed: { Self → List (AnsweredCall AnalyzerCall) };
 
     /// A text of this partition's collector.
     fn collected(&mut self, partition: u32, text: &[u8]) -> Result<(), ArtifactError>
         ensures { TakesCall (analyzed self.old) (analyzer.Collected partition text.now) result (analyzed self.new) };
 
-    /// The same call, by which the text is handed over: who keeps it needs no copy.
+    /// The same call, but the text is handed over: an analyzer that stores it needs no copy.
     fn take_collected(&mut self, partition: u32, text: Item) -> Result<(), ArtifactError>
         ensures { TakesCall (analyzed self.old) (analyzer.Collected partition text) result (analyzed self.new) }
     {
@@ -39,9 +39,9 @@ pub trait Analyzer {
         ensures { result.now ≡ calls_of (analyzed self.now) };
 }
 
-/// A partition reducer: it is told that the step begins and how it ends.
+/// A partition reducer: it hears that the step begins and how it ends.
 pub trait Reducer {
-    ghost reduced: { Self → List (Taken ReducerCall) };
+    ghost reduced: { Self → List (AnsweredCall ReducerCall) };
 
     /// The step begins; it has no partition yet.
     fn begin(&mut self) -> Result<(), ArtifactError>

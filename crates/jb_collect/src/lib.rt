@@ -1,9 +1,9 @@
-//! What a partitioned step tells on its main thread, after Jakarta Batch 2.1: its analyzer, what the partitions collected
-//! and how they ended; its reducer, that the step begins and how it ends.
+//! What a partitioned step reports on its main thread, after Jakarta Batch 2.1. To its analyzer: what the partitions collected
+//! and how they ended. To its reducer: that the step begins and how it ends.
 //!
 //! - `calls`: what the two are called with.
 //! - `interfaces`: what an analyzer and a reducer answer.
-//! - `delivery`: tells the analyzer of one round.
+//! - `delivery`: reports one round to the analyzer.
 //! - `call_list`, `list_analyzer`, `list_reducer`: ready ones, which keep the list of their calls, and may fail at a planned one.
 //! - `faultless`: ready ones that keep it too, and never fail.
 //! - `laws`: what holds of every delivery.

@@ -1,7 +1,7 @@
 //! An analyzer that keeps the list of its calls.
 
 ghost use Rattle.std.specs.Prelude.{◌≡◌, []};
-ghost use Rattle.jb_collect.specs.Listed.{taken_of};
+ghost use Rattle.jb_collect.specs.Listed.{answered_calls_of};
 
 use crate::call_list::CallList;
 use crate::calls::{AnalyzerCall, Status};
@@ -41,7 +41,7 @@ impl ListAnalyzer {
 }
 
 impl Analyzer for ListAnalyzer {
-    ghost analyzed = { taken_of };
+    ghost analyzed = { answered_calls_of };
 
     fn collected(&mut self, partition: u32, text: &[u8]) -> Result<(), ArtifactError> {
         let text = Item::copy_of(self.alloc, text)?;

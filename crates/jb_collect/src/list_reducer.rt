@@ -1,7 +1,7 @@
 //! A reducer that keeps the list of its calls.
 
 ghost use Rattle.std.specs.Prelude.{◌≡◌, []};
-ghost use Rattle.jb_collect.specs.Listed.{taken_of};
+ghost use Rattle.jb_collect.specs.Listed.{answered_calls_of};
 
 use crate::call_list::CallList;
 use crate::calls::{PartitionStatus, ReducerCall};
@@ -38,7 +38,7 @@ impl ListReducer {
 }
 
 impl Reducer for ListReducer {
-    ghost reduced = { taken_of };
+    ghost reduced = { answered_calls_of };
 
     fn begin(&mut self) -> Result<(), ArtifactError> {
         self.list.take(ReducerCall::Begin)

@@ -4,15 +4,15 @@ use Rattle.std.specs.Prelude.{IfOk, MatchResult}
 use Rattle.sqlite_wal.specs.Recovery.{Image}
 use Rattle.jb_rows.specs.Fields.{packed}
 use Rattle.jb_rows.specs.declared.rows_reader.RowsReader.{RowsReader}
-use Rattle.jb_slice_run.specs.Step.{AreOf}
+use Rattle.jb_slice_run.specs.Step.{AreStampsOf}
 use Rattle.jb_slices.specs.Function.{Function}
 use Rattle.jb_slices.specs.Slice.{Functions}
 use Rattle.jb_csv_job.specs.Done.{HasEnded, HasTakenSoFar}
 use Rattle.jb_csv_job.specs.Job.{JobRecord, job_record}
-use Rattle.jb_csv_job.specs.Kept.{IsTakenUp, LeavesSlice, image_by}
-use Rattle.jb_csv_job.specs.Loop.{IfTakenUp, IsLeftOfAny}
+use Rattle.jb_csv_job.specs.SliceFiles.{CanResumeJob, LeavesSlice, image_by}
+use Rattle.jb_csv_job.specs.Loop.{IfJobResumes, IsLeftOfAny}
 use Rattle.jb_csv_job.specs.declared.asked.Asked.{Asked}
-use Rattle.jb_csv_job.specs.declared.failure.Failure.{Failure}
+use Rattle.jb_csv_job.specs.declared.failure.CsvJobError.{CsvJobError}
 use Rattle.jb_csv_job.specs.declared.job.CsvJob.{CsvJob}
 use Rattle.jb_csv_job.specs.declared.run.JobEnd.{JobEnd}
 use Rattle.jb_csv_job.proofs.Going.{none-before, read-of, so-far}
@@ -22,44 +22,44 @@ pub same-job : (csv other : CsvJob) (asked words : Asked) (f g : Function) → c
 same-job csv other asked words f g e a h = ap (λ c. job_record c asked f) e ∙ ap (λ w. job_record other w f) a ∙ ap (λ x. job_record other words x) h
 
 module _ {R : Type 0} (remaining : R → Option (List ℕ)) (reader : RowsReader R) (log db : ℕ → List ℕ) (job own : JobRecord) (same : job ≡ own) where
-  pub ends-same : (took : List (List ℕ) → Type 0) (result : Result JobEnd Failure)
-      → IfTakenUp job remaining reader log db (λ functions text. IfOk result (λ end. HasEnded job (Some text) took end.status end.skips))
-      → IfTakenUp own remaining reader log db (λ functions text. IfOk result (λ end. HasEnded own (Some text) took end.status end.skips))
+  pub ends-same : (took : List (List ℕ) → Type 0) (result : Result JobEnd CsvJobError)
+      → IfJobResumes job remaining reader log db (λ functions text. IfOk result (λ end. HasEnded job (Some text) took end.status end.skips))
+      → IfJobResumes own remaining reader log db (λ functions text. IfOk result (λ end. HasEnded own (Some text) took end.status end.skips))
   ends-same took result ends =
-      subst (λ (j : JobRecord). IfTakenUp j remaining reader log db (λ functions text. IfOk result (λ end. HasEnded j (Some text) took end.status end.skips))) same ends
+      subst (λ (j : JobRecord). IfJobResumes j remaining reader log db (λ functions text. IfOk result (λ end. HasEnded j (Some text) took end.status end.skips))) same ends
 
-  pub front-same : (took : List (List ℕ) → Type 0) (refuse : Failure → Type 0) (result : Result JobEnd Failure)
-      → IfTakenUp job remaining reader log db (λ functions text. MatchResult result (λ end. HasTakenSoFar job (Some text) took) (λ e. refuse e ⊎ HasTakenSoFar job (Some text) took))
-      → IfTakenUp own remaining reader log db (λ functions text. MatchResult result (λ end. HasTakenSoFar own (Some text) took) (λ e. refuse e ⊎ HasTakenSoFar own (Some text) took))
+  pub front-same : (took : List (List ℕ) → Type 0) (refuse : CsvJobError → Type 0) (result : Result JobEnd CsvJobError)
+      → IfJobResumes job remaining reader log db (λ functions text. MatchResult result (λ end. HasTakenSoFar job (Some text) took) (λ e. refuse e ⊎ HasTakenSoFar job (Some text) took))
+      → IfJobResumes own remaining reader log db (λ functions text. MatchResult result (λ end. HasTakenSoFar own (Some text) took) (λ e. refuse e ⊎ HasTakenSoFar own (Some text) took))
   front-same took refuse result front =
-      subst (λ (j : JobRecord). IfTakenUp j remaining reader log db (λ functions text.
+      subst (λ (j : JobRecord). IfJobResumes j remaining reader log db (λ functions text.
       MatchResult result (λ end. HasTakenSoFar j (Some text) took) (λ e. refuse e ⊎ HasTakenSoFar j (Some text) took))) same front
 
   pub left-same : (old new : (k : ℕ) → (items : List (List ℕ)) → Image → Type 0)
-      → IfTakenUp job remaining reader log db (λ functions text. (k : ℕ) (items : List (List ℕ)) (image : Image) → new k items image → old k items image ⊎ LeavesSlice job functions (Some text) k image)
-      → IfTakenUp own remaining reader log db (λ functions text. (k : ℕ) (items : List (List ℕ)) (image : Image) → new k items image → old k items image ⊎ LeavesSlice own functions (Some text) k image)
+      → IfJobResumes job remaining reader log db (λ functions text. (k : ℕ) (items : List (List ℕ)) (image : Image) → new k items image → old k items image ⊎ LeavesSlice job functions (Some text) k image)
+      → IfJobResumes own remaining reader log db (λ functions text. (k : ℕ) (items : List (List ℕ)) (image : Image) → new k items image → old k items image ⊎ LeavesSlice own functions (Some text) k image)
   left-same old new left =
-      subst (λ (j : JobRecord). IfTakenUp j remaining reader log db (λ functions text.
+      subst (λ (j : JobRecord). IfJobResumes j remaining reader log db (λ functions text.
       (k : ℕ) (items : List (List ℕ)) (image : Image) → new k items image → old k items image ⊎ LeavesSlice j functions (Some text) k image)) same left
 
 pub crash-same : (log db : ℕ → List ℕ) (job own : JobRecord) → job ≡ own → (old new : (k : ℕ) → (items : List (List ℕ)) → Image → Type 0)
-    → ((functions : Functions) → AreOf functions job.function job.stamps → (k : ℕ) (items : List (List ℕ)) (image : Image) → new k items image → IsLeftOfAny job functions (image_by log db) (old k items image) k items image)
-    → (functions : Functions) → AreOf functions own.function own.stamps → (k : ℕ) (items : List (List ℕ)) (image : Image) → new k items image → IsLeftOfAny own functions (image_by log db) (old k items image) k items image
+    → ((functions : Functions) → AreStampsOf functions job.function job.stamps → (k : ℕ) (items : List (List ℕ)) (image : Image) → new k items image → IsLeftOfAny job functions (image_by log db) (old k items image) k items image)
+    → (functions : Functions) → AreStampsOf functions own.function own.stamps → (k : ℕ) (items : List (List ℕ)) (image : Image) → new k items image → IsLeftOfAny own functions (image_by log db) (old k items image) k items image
 crash-same log db job own same old new crash =
-    subst (λ (j : JobRecord). (functions : Functions) → AreOf functions j.function j.stamps → (k : ℕ) (items : List (List ℕ)) (image : Image) → new k items image
+    subst (λ (j : JobRecord). (functions : Functions) → AreStampsOf functions j.function j.stamps → (k : ℕ) (items : List (List ℕ)) (image : Image) → new k items image
     → IsLeftOfAny j functions (image_by log db) (old k items image) k items image) same crash
 
 -- a job that is taken up from a stream is so from its bytes
-pub known-up : (job : JobRecord) (functions : Functions) (text : Option (List ℕ)) (log db : ℕ → List ℕ) → (up : IsTakenUp job functions text log db) → IsTakenUp job functions (Some up.bytes) log db
+pub known-up : (job : JobRecord) (functions : Functions) (text : Option (List ℕ)) (log db : ℕ → List ℕ) → (up : CanResumeJob job functions text log db) → CanResumeJob job functions (Some up.bytes) log db
 known-up job functions text log db up = record { bytes = up.bytes; known = refl; records = up.records; read = up.read; stamps = up.stamps; each = up.each }
 
 -- whatever is answered, what was taken so far is so
-pub either-way : (refuse : Failure → Type 0) (P : Type 0) (result : Result JobEnd Failure) → P → MatchResult result (λ _. P) (λ e. refuse e ⊎ P)
+pub either-way : (refuse : CsvJobError → Type 0) (P : Type 0) (result : Result JobEnd CsvJobError) → P → MatchResult result (λ _. P) (λ e. refuse e ⊎ P)
 either-way refuse P (Ok end) so = so
 either-way refuse P (Err e) so = inr so
 
 -- nothing is taken yet
-pub none-taken : (job : JobRecord) (functions : Functions) (text : List ℕ) (log db : ℕ → List ℕ) → IsTakenUp job functions (Some text) log db → (took : List (List ℕ) → Type 0)
+pub none-taken : (job : JobRecord) (functions : Functions) (text : List ℕ) (log db : ℕ → List ℕ) → CanResumeJob job functions (Some text) log db → (took : List (List ℕ) → Type 0)
     → took [] → HasTakenSoFar job (Some text) took
 none-taken job functions text log db up took none =
     so-far job text up.records took [] (read-of job functions text log db up) none (0, none-before job (map packed up.records))

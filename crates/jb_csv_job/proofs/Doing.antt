@@ -4,7 +4,7 @@ use Rattle.std.specs.Prelude.{MatchOption, ⊤}
 use Rattle.std.proofs.lemmas.List.{length-map}
 use Rattle.jb_collect.specs.declared.calls.Status.TheVariants.{Completed, Failed}
 use Rattle.jb_mapper.specs.EvenCover.{even_ranges}
-use Rattle.jb_records.specs.Shares.{joined}
+use Rattle.jb_records.specs.PartitionResults.{joined}
 use Rattle.jb_slice_run.specs.declared.durable.end.SliceEnd.{SliceEnd}
 use Rattle.jb_slice_run.specs.Held.{fault_in, faults_in}
 use Rattle.jb_slices.specs.Function.{Fault, all_results, fault_classes, faults_from}

@@ -7,24 +7,24 @@ use Rattle.sqlite_trees.specs.Tree.{Trees}
 use Rattle.sqlite_wal.specs.Recovery.{Image}
 use Rattle.jb_collect.specs.declared.calls.Status.{Status}
 use Rattle.jb_collect.specs.declared.calls.Status.TheVariants.{Completed, Failed}
-use Rattle.jb_records.specs.Shares.{joined}
+use Rattle.jb_records.specs.PartitionResults.{joined}
 use Rattle.jb_slice_run.specs.durable.Work.{IsResumed, work_of}
 use Rattle.jb_slice_run.specs.declared.durable.end.SliceEnd.{SliceEnd}
 use Rattle.jb_slice_file.specs.Connections.{IsJustOpened}
-use Rattle.jb_slice_file.specs.Files.{IsOfARun}
-use Rattle.jb_slice_file.specs.Kept.{Kept}
+use Rattle.jb_slice_file.specs.Files.{HasRunCheckpoints}
+use Rattle.jb_slice_file.specs.CheckpointBytes.{CheckpointBytes}
 use Rattle.jb_slice_file.specs.Rows.{Has, ShowsList}
 use Rattle.jb_slice_run.specs.Held.{faults_in, limits_in}
 use Rattle.jb_slice_run.specs.Jobs.{job_in, stamps_in}
-use Rattle.jb_slice_run.specs.Kept.{KeepsSlice}
-use Rattle.jb_slice_run.specs.Step.{AreOf}
+use Rattle.jb_slice_run.specs.SliceBytes.{KeepsSlice}
+use Rattle.jb_slice_run.specs.Step.{AreStampsOf}
 use Rattle.jb_slice_run.specs.declared.job.SliceJob.{SliceJob}
 use Rattle.jb_slices.specs.Function.{Function, all_results, faults_from}
 use Rattle.jb_slices.specs.Job.{Job, Limits, first_of}
 use Rattle.jb_slices.specs.Passing.{SlicePasses}
 use Rattle.jb_slices.specs.Slice.{Functions}
 use Rattle.jb_csv_job.specs.Job.{identity_of, job_record, limits_of, stamps_of}
-use Rattle.jb_csv_job.specs.Kept.{HoldsSlice, KeepsOwn}
+use Rattle.jb_csv_job.specs.SliceFiles.{HoldsSlice, KeepsOwn}
 use Rattle.jb_csv_job.specs.Slices.{IsSliceEnd, IsSliceJobOf}
 use Rattle.jb_csv_job.specs.declared.asked.Asked.{Asked}
 use Rattle.jb_csv_job.specs.declared.job.CsvJob.{CsvJob}
@@ -62,18 +62,18 @@ module _ (csv : CsvJob) (asked : Asked) (slice : SliceJob) (of : IsSliceJobOf cs
       (slice-ends one (λ done. results) (λ done. skips) (λ done. passes) (λ failed pass. not-both one.status completed failed))
 
   -- checkpoints of the slice's run are those of the job
-  pub left-own : (functions : Functions) (db : Trees) → IsOfARun (λ all. KeepsSlice (job_in slice) functions number items all) db
-      → IsOfARun (λ all. KeepsOwn (job_record csv asked f) functions number items all) db
-  left-own functions db left = subst (λ (j : Job). IsOfARun (λ all. KeepsSlice j functions number items all) db) of.identity left
+  pub left-own : (functions : Functions) (db : Trees) → HasRunCheckpoints (λ all. KeepsSlice (job_in slice) functions number items all) db
+      → HasRunCheckpoints (λ all. KeepsOwn (job_record csv asked f) functions number items all) db
+  left-own functions db left = subst (λ (j : Job). HasRunCheckpoints (λ all. KeepsSlice j functions number items all) db) of.identity left
 
   -- over files that hold the slice so far, or nothing, it is resumed
-  pub resumed-from : (functions : Functions) (before after : State) (image : Image) → HasCleanDisk after → IsJustOpened before → AreOf functions f (stamps_of csv asked)
+  pub resumed-from : (functions : Functions) (before after : State) (image : Image) → HasCleanDisk after → IsJustOpened before → AreStampsOf functions f (stamps_of csv asked)
       → HoldsSlice (job_record csv asked f) functions number items image
-      → ((db : Trees) (all : List Kept) → HoldsDatabase image db → Has db all → ShowsList before.now all) → (IsNothing image → ShowsList before.now [])
-      → (all : List Kept) × IsResumed (work_of slice functions f number items) (stamps_in slice) before after all
+      → ((db : Trees) (all : List CheckpointBytes) → HoldsDatabase image db → Has db all → ShowsList before.now all) → (IsNothing image → ShowsList before.now [])
+      → (all : List CheckpointBytes) × IsResumed (work_of slice functions f number items) (stamps_in slice) before after all
   resumed-from functions before after image clean opened stamps holds found nothing =
-      let of-all : AreOf functions f (stamps_in slice) = subst (AreOf functions f) (sym of.stamps) stamps in
-      let back : (all : List Kept) → KeepsOwn (job_record csv asked f) functions number items all → KeepsSlice (job_in slice) functions number items all =
+      let of-all : AreStampsOf functions f (stamps_in slice) = subst (AreStampsOf functions f) (sym of.stamps) stamps in
+      let back : (all : List CheckpointBytes) → KeepsOwn (job_record csv asked f) functions number items all → KeepsSlice (job_in slice) functions number items all =
       λ all keeps. subst (λ (j : Job). KeepsSlice j functions number items all) (sym of.identity) keeps in
       elim holds [
         | inl h ↦ (h.1, record { shown = record { clean = clean; opened = opened; shows = found h.0 h.1 h.2 h.3 }; stamps_are = of-all; so_far = back h.1 h.4 })
@@ -82,7 +82,7 @@ module _ (csv : CsvJob) (asked : Asked) (slice : SliceJob) (of : IsSliceJobOf cs
           record {
             shown = record { clean = clean; opened = opened; shows = nothing none };
             stamps_are = of-all;
-            so_far = record { checkpoints = []; kept_as = tt; so_far = tt };
+            so_far = record { checkpoints = []; stored_as = tt; so_far = tt };
           },
         )
       ]

@@ -13,8 +13,8 @@ use Rattle.jb_slices.specs.Job.{HasSlice, IsLastSlice, first_of}
 use Rattle.jb_slices.specs.Slice.{Functions}
 use Rattle.jb_csv_job.specs.Done.{HasEnded, HasTakenSoFar}
 use Rattle.jb_csv_job.specs.Job.{JobRecord}
-use Rattle.jb_csv_job.specs.Kept.{HoldsSlice, IsTakenUp, KeepsOwn, LeavesSlice, image_by, slice_of}
-use Rattle.jb_csv_job.specs.Loop.{AreDone, HasGoneOn, IsFront, IsLeft, IsLeftOfAny, IsOfText, IsSliceRead, StandsBefore, front_of}
+use Rattle.jb_csv_job.specs.SliceFiles.{HoldsSlice, CanResumeJob, KeepsOwn, LeavesSlice, image_by, slice_of}
+use Rattle.jb_csv_job.specs.Loop.{AreDone, HasGoneOn, IsFront, IsLeft, IsLeftOfAny, IsSliceOfText, IsSliceRead, StandsBefore, front_of}
 use Rattle.jb_csv_job.specs.Tasks.{given_by, is_own}
 use Rattle.jb_csv_job.specs.declared.tally.Tally.{Tally}
 use Rattle.jb_csv_job.proofs.Doing.{all-given, all-pass, all-skips}
@@ -44,7 +44,7 @@ few-zero None n e = tt
 few-zero (Some l) n e = omega (arith, e)
 
 -- the records of a job that is taken up are those of the text
-pub read-of : (job : JobRecord) (functions : Functions) (text : List ℕ) (log db : ℕ → List ℕ) → (up : IsTakenUp job functions (Some text) log db) → AreRowsOf job.options text up.records
+pub read-of : (job : JobRecord) (functions : Functions) (text : List ℕ) (log db : ℕ → List ℕ) → (up : CanResumeJob job functions (Some text) log db) → AreRowsOf job.options text up.records
 read-of job functions text log db up = let same : up.bytes ≡ text = cc up.known in subst (λ t. AreRowsOf job.options t up.records) same up.read
 
 -- ---- before the first slice
@@ -107,7 +107,7 @@ has-ended job some text records took taken number t read given gone status skips
 -- ---- what a crash leaves
 
 pub of-text : (job : JobRecord) (records : List Fields) (number : ℕ) → HasSlice job.job (map packed records) number → is_own job.task number ≡ true
-    → (items : List (List ℕ)) → items ≡ slice_of job records number → (before : Type 0) (k : ℕ) (read : List (List ℕ)) → before ⊎ ((k ≡ number) × (read ≡ items)) → IsOfText job records before k read
+    → (items : List (List ℕ)) → items ≡ slice_of job records number → (before : Type 0) (k : ℕ) (read : List (List ℕ)) → before ⊎ ((k ≡ number) × (read ≡ items)) → IsSliceOfText job records before k read
 of-text job records number has own items are before k read left = elim left [
   | inl same ↦ inl same
   | inr new ↦ inr (
@@ -125,8 +125,8 @@ any-left job functions stored number items before k read image left = elim left 
       (new.2 (subst (λ xs. HoldsSlice job functions number xs (stored number)) new.1 (subst (λ n. HoldsSlice job functions n read (stored n)) new.0 holds)))))
 ]
 
-pub left-of-text : (job : JobRecord) (functions : Functions) (text : List ℕ) (log db : ℕ → List ℕ) (up : IsTakenUp job functions (Some text) log db) (before : Type 0) (k : ℕ) (read : List (List ℕ)) (image : Image)
-    → IsLeftOfAny job functions (image_by log db) before k read image → IsOfText job up.records before k read → before ⊎ LeavesSlice job functions (Some text) k image
+pub left-of-text : (job : JobRecord) (functions : Functions) (text : List ℕ) (log db : ℕ → List ℕ) (up : CanResumeJob job functions (Some text) log db) (before : Type 0) (k : ℕ) (read : List (List ℕ)) (image : Image)
+    → IsLeftOfAny job functions (image_by log db) before k read image → IsSliceOfText job up.records before k read → before ⊎ LeavesSlice job functions (Some text) k image
 left-of-text job functions text log db up before k read image left of = elim left [
   | inl same ↦ inl same
   | inr run ↦ elim of [

@@ -11,8 +11,8 @@ use Rattle.clap.specs.declared.parser.matches.ArgMatches.{ArgMatches}
 use Rattle.jb_csv_job.specs.CommandLine.{AreRefused, IsLine, IsWrong, all_at, first_at, job_app}
 use Rattle.jb_csv_job.specs.Matched.{all_in, first_in}
 use Rattle.jb_csv_job.specs.declared.asked.Asked.{Asked}
-use Rattle.jb_csv_job.specs.declared.failure.Failure.{Failure}
-use Rattle.jb_csv_job.specs.declared.failure.Failure.TheVariants as failure
+use Rattle.jb_csv_job.specs.declared.failure.CsvJobError.{CsvJobError}
+use Rattle.jb_csv_job.specs.declared.failure.CsvJobError.TheVariants as failure
 use Rattle.jb_csv_job.specs.declared.failure.WordsFault.TheVariants as fault
 
 -- it is simple, and no argument of it has a rule on another
@@ -40,11 +40,11 @@ module _ (m : ArgMatches) (name : Text) (own : Option Text) (words : List Text) 
   pub line-said : (asked : Asked) → IsLine (first_in m) (all_in m) own asked → IsLine (first_at name own words) (all_at name own words) own asked
   line-said asked line = subst₂ (λ first all. IsLine first all own asked) first-is all-is line
 
-  pub wrong-said : (e : Failure) → IsWrong (first_in m) e → IsWrong (first_at name own words) e
+  pub wrong-said : (e : CsvJobError) → IsWrong (first_in m) e → IsWrong (first_at name own words) e
   wrong-said e wrong = subst (λ first. IsWrong first e) first-is wrong
 
 -- a wrong value is why words are refused
-pub refused-by : (name : Text) (own : Option Text) (words : List Text) (e : Failure) → IsWrong (first_at name own words) e → AreRefused name own words e
+pub refused-by : (name : Text) (own : Option Text) (words : List Text) (e : CsvJobError) → IsWrong (first_at name own words) e → AreRefused name own words e
 refused-by name own words (failure.Words (fault.OldForm threads)) wrong = absurd wrong
 refused-by name own words (failure.Words (fault.Wrong text)) wrong = absurd wrong
 refused-by name own words (failure.Words (fault.Threads value)) wrong = wrong

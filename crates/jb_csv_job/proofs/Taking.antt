@@ -9,7 +9,7 @@ use Rattle.jb_rows.specs.declared.rows_reader.RowsReader.{RowsReader}
 use Rattle.jb_slices.specs.Job.{HasSlice, IsLastSlice, Job, first_of, slice_at}
 use Rattle.jb_slices.proofs.Seams.{next-first, take-more}
 use Rattle.jb_csv_job.specs.Job.{JobRecord}
-use Rattle.jb_csv_job.specs.Kept.{slice_of}
+use Rattle.jb_csv_job.specs.SliceFiles.{slice_of}
 use Rattle.jb_csv_job.specs.Loop.{IsSliceRead, StandsBefore}
 use Rattle.jb_csv_job.proofs.Fronts.{given-front, same-rows}
 

@@ -9,8 +9,8 @@ use Rattle.clap.specs.declared.error.kind.ErrorKind.TheVariants.{DisplayHelp, Di
 use Rattle.jb_base.specs.Limits.{max_threads}
 use Rattle.jb_csv_job.specs.Asking.{number_between, part_of, task_in}
 use Rattle.jb_csv_job.specs.declared.asked.Asked.{Asked}
-use Rattle.jb_csv_job.specs.declared.failure.Failure.{Failure}
-use Rattle.jb_csv_job.specs.declared.failure.Failure.TheVariants as failure
+use Rattle.jb_csv_job.specs.declared.failure.CsvJobError.{CsvJobError}
+use Rattle.jb_csv_job.specs.declared.failure.CsvJobError.TheVariants as failure
 use Rattle.jb_csv_job.specs.declared.failure.WordsFault.{WordsFault}
 use Rattle.jb_csv_job.specs.declared.failure.WordsFault.TheVariants as fault
 use Rattle.jb_rows.specs.Numbers.{number_of}
@@ -75,7 +75,7 @@ IsWrongValue first fault.PartAndOutput = (is_some (first (codes "part")) ≡ tru
 IsWrongValue first fault.NoFolder = first (codes "FOLDER") ≡ None
 IsWrongValue first _ = ⊥
 
-abbrev pub IsWrong : (first : Text → Option Text) → Failure → Type 0
+abbrev pub IsWrong : (first : Text → Option Text) → CsvJobError → Type 0
 IsWrong first (failure.Words fault) = IsWrongValue first fault
 IsWrong first failure.Memory = ⊤
 IsWrong first _ = ⊥
@@ -102,7 +102,7 @@ abbrev pub IsOldForm : List Text → (threads : Text) → Type 0
 IsOldForm words threads = (file : Text) × (words ≡ threads ∷ file ∷ []) × (is_some (number_of threads) ≡ true)
 
 -- WHY THEY ARE REFUSED: they are of the old form; `clap` finds a mistake; or it takes them, and a value is wrong
-abbrev pub AreRefused : (name : Text) → (own : Option Text) → (words : List Text) → Failure → Type 0
+abbrev pub AreRefused : (name : Text) → (own : Option Text) → (words : List Text) → CsvJobError → Type 0
 AreRefused name own words (failure.Words (fault.OldForm threads)) = IsOldForm words (string_bytes threads)
 AreRefused name own words (failure.Words (fault.Wrong text)) = (kind : ErrorKind) × IsAmong kind (fault_of (job_app name own) words) × (kind ≢ DisplayHelp) × (kind ≢ DisplayVersion)
 AreRefused name own words e = IsWrong (first_at name own words) e

@@ -2,8 +2,8 @@
 -- from the system.
 use Rattle.std.specs.Prelude.{ℕ, Bool, true, false, ◌++◌, List, Option, Some, None, codes, decimal, string_bytes}
 use Rattle.jb_csv_job.specs.SliceTexts.{at_slice, run_text, store_text}
-use Rattle.jb_csv_job.specs.declared.failure.Failure.{Failure}
-use Rattle.jb_csv_job.specs.declared.failure.Failure.TheVariants as failure
+use Rattle.jb_csv_job.specs.declared.failure.CsvJobError.{CsvJobError}
+use Rattle.jb_csv_job.specs.declared.failure.CsvJobError.TheVariants as failure
 use Rattle.jb_csv_job.specs.declared.failure.FolderFault.{FolderFault}
 use Rattle.jb_csv_job.specs.declared.failure.FolderFault.TheVariants as folder_fault
 use Rattle.jb_csv_job.specs.declared.failure.OutputFault.{OutputFault}
@@ -47,7 +47,7 @@ records_text records asked read true = codes "OtherNumber: the input has " ++ (d
 records_text records asked read false = codes "OtherNumber: the input has " ++ (decimal read ++ (codes " " ++ (records ++ (codes " at least, and --records says " ++ (decimal asked ++ codes ". Type the same line with the right input.")))))
 
 -- of a job with this name and these words for its input and its records, over this folder
-abbrev pub job_failure_text : (name input records folder : List ℕ) → Failure → Option (List ℕ)
+abbrev pub job_failure_text : (name input records folder : List ℕ) → CsvJobError → Option (List ℕ)
 job_failure_text name input records folder (failure.Words fault) = Some (words_text name input fault)
 job_failure_text name input records folder (failure.Folder fault) = folder_text folder fault
 job_failure_text name input records folder (failure.File number error) = store_text folder number error

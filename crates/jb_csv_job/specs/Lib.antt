@@ -3,7 +3,7 @@ pub mod CommandLine
 pub mod Done
 pub mod Failures
 pub mod Job
-pub mod Kept
+pub mod SliceFiles
 pub mod Loop
 pub mod Matched
 pub mod Parsing

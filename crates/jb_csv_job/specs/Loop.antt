@@ -13,7 +13,7 @@ use Rattle.jb_slices.specs.Job.{HasSlice, IsLastSlice, first_of, slice_at}
 use Rattle.jb_slices.specs.Passing.{SlicePasses}
 use Rattle.jb_slices.specs.Slice.{Functions}
 use Rattle.jb_csv_job.specs.Job.{JobRecord}
-use Rattle.jb_csv_job.specs.Kept.{HoldsSlice, IsTakenUp, KeepsOwn, slice_of}
+use Rattle.jb_csv_job.specs.SliceFiles.{HoldsSlice, CanResumeJob, KeepsOwn, slice_of}
 use Rattle.jb_csv_job.specs.Tasks.{TaskPasses, given_by, is_own, own_items}
 use Rattle.jb_csv_job.specs.declared.tally.Seam.{Seam}
 use Rattle.jb_csv_job.specs.declared.tally.Seam.TheVariants.{Ends, Gives, Keeps}
@@ -32,9 +32,9 @@ pub record IsSliceRead {R : Type 0} (job : JobRecord) (remaining : R → Option 
   pub next : MatchBool is_last (IsLastSlice job.job (map packed records) number) (StandsBefore job remaining text records (suc number) reader)
 
 -- where a reader that has given nothing of the text yet reads the text of a job that is taken up, this holds
-abbrev pub IfTakenUp : {R : Type 0} → JobRecord → (remaining : R → Option (List ℕ)) → RowsReader R → (log db : ℕ → List ℕ) → (Functions → (text : List ℕ) → Type 0) → Type 0
-IfTakenUp job remaining reader log db Holds =
-    (text : List ℕ) → HasGivenRows job.options remaining reader text [] → (functions : Functions) → IsTakenUp job functions (Some text) log db → Holds functions text
+abbrev pub IfJobResumes : {R : Type 0} → JobRecord → (remaining : R → Option (List ℕ)) → RowsReader R → (log db : ℕ → List ℕ) → (Functions → (text : List ℕ) → Type 0) → Type 0
+IfJobResumes job remaining reader log db Holds =
+    (text : List ℕ) → HasGivenRows job.options remaining reader text [] → (functions : Functions) → CanResumeJob job functions (Some text) log db → Holds functions text
 
 -- ---- COUNTED
 
@@ -87,5 +87,5 @@ abbrev pub IsLeftOfAny : JobRecord → Functions → (stored : ℕ → Image) �
 IsLeftOfAny job functions stored before k read image = before ⊎ (HoldsSlice job functions k read (stored k) → HoldsRun (KeepsOwn job functions k read) image)
 
 -- and these items are those of the text's slice, which is one of the task's own
-abbrev pub IsOfText : JobRecord → (records : List Fields) → (before : Type 0) → (k : ℕ) → (read : List (List ℕ)) → Type 0
-IsOfText job records before k read = before ⊎ (HasSlice job.job (map packed records) k × (is_own job.task k ≡ true) × (read ≡ slice_of job records k))
+abbrev pub IsSliceOfText : JobRecord → (records : List Fields) → (before : Type 0) → (k : ℕ) → (read : List (List ℕ)) → Type 0
+IsSliceOfText job records before k read = before ⊎ (HasSlice job.job (map packed records) k × (is_own job.task k ≡ true) × (read ≡ slice_of job records k))

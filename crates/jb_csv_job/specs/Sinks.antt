@@ -4,8 +4,8 @@ use Rattle.std.proofs.KnownBytes.{Appends-nil}
 use Rattle.std.specs.Io.KnownBytes.{Appends}
 use Rattle.jb_rows.specs.Fields.{fields_in}
 use Rattle.jb_rows.specs.Streams.{IsBetweenRows, csv_rows, rows_written}
-use Rattle.jb_csv_job.specs.declared.failure.Failure.{Failure}
-use Rattle.jb_csv_job.specs.declared.failure.Failure.TheVariants.{Rows}
+use Rattle.jb_csv_job.specs.declared.failure.CsvJobError.{CsvJobError}
+use Rattle.jb_csv_job.specs.declared.failure.CsvJobError.TheVariants.{Rows}
 use Rattle.jb_csv_job.specs.declared.sink.CsvSink.{CsvSink}
 
 -- it is between two lines, and what its stream holds once all is written
@@ -26,6 +26,6 @@ pub taken_none : {W : Type 0} (contents : W → Option (List ℕ)) (s : CsvSink 
 taken_none contents s delimiter between = (between, Appends-nil (lines_written contents s))
 
 -- a failure of the records that are read or written
-abbrev pub IsOfRows : Failure → Type 0
-IsOfRows (Rows error) = ⊤
-IsOfRows _ = ⊥
+abbrev pub IsRowsError : CsvJobError → Type 0
+IsRowsError (Rows error) = ⊤
+IsRowsError _ = ⊥

@@ -1,7 +1,7 @@
 -- How a slice of a job ends.
 use Rattle.std.specs.Prelude.{ℕ, ◌≡◌, List}
 use Rattle.jb_collect.specs.declared.calls.Status.TheVariants.{Completed, Failed}
-use Rattle.jb_records.specs.Shares.{joined}
+use Rattle.jb_records.specs.PartitionResults.{joined}
 use Rattle.jb_slice_run.specs.declared.durable.end.SliceEnd.{SliceEnd}
 use Rattle.jb_slice_run.specs.Held.{faults_in, limits_in}
 use Rattle.jb_slice_run.specs.Jobs.{job_in, stamps_in}

@@ -1,8 +1,8 @@
 -- THE EXIT STATUS WHERE A JOB HAS NO ANSWER: 2 if it was stopped; 3 if it refuses what it was given, and the same line won't help; 4 if the same line helps later: no
 -- memory, no worker, no room, a busy file, a stream that failed; 5 if the words are wrong.
 use Rattle.std.specs.Prelude.{ℕ}
-use Rattle.jb_csv_job.specs.declared.failure.Failure.{Failure}
-use Rattle.jb_csv_job.specs.declared.failure.Failure.TheVariants as failure
+use Rattle.jb_csv_job.specs.declared.failure.CsvJobError.{CsvJobError}
+use Rattle.jb_csv_job.specs.declared.failure.CsvJobError.TheVariants as failure
 use Rattle.jb_csv_job.specs.declared.failure.FolderFault.{FolderFault}
 use Rattle.jb_csv_job.specs.declared.failure.FolderFault.TheVariants as folder
 use Rattle.jb_csv_job.specs.declared.failure.OutputFault.{OutputFault}
@@ -75,7 +75,7 @@ output_status output.NotAFile = 3
 output_status output.Busy = 4
 output_status (output.CannotWrite error) = 4
 
-abbrev pub failure_status : Failure → ℕ
+abbrev pub failure_status : CsvJobError → ℕ
 failure_status (failure.Words fault) = 5
 failure_status (failure.Folder fault) = folder_status fault
 failure_status (failure.File number error) = store_status error

@@ -4,7 +4,7 @@ ghost use Rattle.std.specs.Prelude.{◌≤◌, IfErr, OnOk};
 ghost use Rattle.jb_base.specs.Limits.{max_threads};
 ghost use Rattle.jb_csv_job.specs.Asking.{AreAsMany, IsInParts};
 
-use crate::failure::Failure;
+use crate::failure::CsvJobError;
 
 /// What is done with the slices.
 #[derive(Clone, Copy, Debug, PartialEq, Eq)]
@@ -65,7 +65,7 @@ impl Asked {
     ///
     /// # Errors
     /// `Records`.
-    pub fn refuse_other_number(&self, read: u64, is_end: bool) -> Result<(), Failure>
+    pub fn refuse_other_number(&self, read: u64, is_end: bool) -> Result<(), CsvJobError>
         ensures same { OnOk result (AreAsMany self.now.records read is_end) }
         ensures other { IfErr result (λ _. AreAsMany self.now.records read is_end → ⊥) }
     {
@@ -73,7 +73,7 @@ impl Asked {
             return Ok(());
         };
         if read > asked || is_end && read < asked {
-            return Err(Failure::Records {
+            return Err(CsvJobError::Records {
                 asked,
                 read,
                 is_end,

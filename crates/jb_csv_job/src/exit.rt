@@ -4,9 +4,9 @@ ghost use Rattle.std.specs.Prelude.{◌≡◌, IfErr, IfOk};
 ghost use Rattle.std.specs.Process.{exit_status};
 ghost use Rattle.jb_csv_job.specs.Statuses.{failure_status};
 
-use crate::failure::Failure;
+use crate::failure::CsvJobError;
 use crate::failure_status::failure_status;
-use crate::failure_text::FailureText;
+use crate::failure_text::CsvJobErrorText;
 use crate::history::{Event, note};
 use crate::host::Host;
 use crate::job::CsvJob;
@@ -77,7 +77,7 @@ pub fn exit_code<T: Eprint + Host>(
     rt: &T,
     job: &CsvJob,
     folder: &str,
-    answer: Result<JobEnd, Failure>,
+    answer: Result<JobEnd, CsvJobError>,
 ) -> ExitCode
     ensures answered { IfOk answer (λ end. exit_status result ≡ end.status) }
     ensures refused { IfErr answer (λ failure. exit_status result ≡ failure_status failure) }
@@ -98,14 +98,14 @@ pub fn exit_code<T: Eprint + Host>(
             ExitCode::from(end.status)
         }
         Err(failure) => {
-            if let Failure::File {
+            if let CsvJobError::File {
                 slice,
                 error: StoreError::CannotOpen,
             } = &failure
             {
                 report_reason(rt, folder, *slice);
             }
-            let text = FailureText {
+            let text = CsvJobErrorText {
                 name: job.name,
                 input: job.input,
                 records: job.records,

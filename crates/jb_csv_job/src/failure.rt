@@ -1,11 +1,11 @@
 //! Why there is no answer.
 
 ghost use Rattle.std.specs.Prelude.{◌≡◌};
-ghost use Rattle.jb_csv_job.specs.declared.failure.Failure.TheVariants.{Memory, Rows};
+ghost use Rattle.jb_csv_job.specs.declared.failure.CsvJobError.TheVariants.{Memory, Rows};
 
 use jb_rows::RowsError;
-use jb_slice_run::DurableError;
 use jb_slice_file::StoreError;
+use jb_slice_run::DurableError;
 use std::alloc::{AllocError, AllocFailed};
 use std::io;
 use thiserror::Error;
@@ -55,7 +55,7 @@ pub enum OutputFault {
 
 /// Why there is no answer. What the files of the slices keep stays: the same line resumes the job.
 #[derive(Debug, Drop, Error)]
-pub enum Failure {
+pub enum CsvJobError {
     /// The words of the command line ask for nothing.
     #[error("the words of the command line ask for nothing")]
     Words(WordsFault),
@@ -88,26 +88,26 @@ pub enum Failure {
     Memory,
 }
 
-impl From<AllocError> for Failure {
+impl From<AllocError> for CsvJobError {
     ghost from_gives = { λ _ failure. failure ≡ Memory };
 
-    fn from(_: AllocError) -> Failure {
-        Failure::Memory
+    fn from(_: AllocError) -> CsvJobError {
+        CsvJobError::Memory
     }
 }
 
-impl<T: Drop> From<AllocFailed<T>> for Failure {
+impl<T: Drop> From<AllocFailed<T>> for CsvJobError {
     ghost from_gives = { λ _ failure. failure ≡ Memory };
 
-    fn from(_: AllocFailed<T>) -> Failure {
-        Failure::Memory
+    fn from(_: AllocFailed<T>) -> CsvJobError {
+        CsvJobError::Memory
     }
 }
 
-impl From<RowsError> for Failure {
+impl From<RowsError> for CsvJobError {
     ghost from_gives = { λ error failure. failure ≡ Rows error };
 
-    fn from(error: RowsError) -> Failure {
-        Failure::Rows(error)
+    fn from(error: RowsError) -> CsvJobError {
+        CsvJobError::Rows(error)
     }
 }

@@ -3,11 +3,11 @@
 ghost use Rattle.std.specs.Prelude.{◌≡◌};
 ghost use Rattle.jb_csv_job.specs.Statuses.{failure_status, part_status, rows_status, run_status, step_status, store_status};
 
-use crate::failure::{Failure, FolderFault, OutputFault};
+use crate::failure::{CsvJobError, FolderFault, OutputFault};
 use jb_records::RecordsStepError;
 use jb_rows::RowsError;
-use jb_slice_run::{DurableError, SliceError, SliceRunError};
 use jb_slice_file::StoreError;
+use jb_slice_run::{DurableError, SliceError, SliceRunError};
 use jb_step::StepError;
 
 /// The same line won't help.
@@ -78,24 +78,24 @@ fn rows_status(error: &RowsError) -> u8
 }
 
 /// The exit status of a job that has no answer: 2, 3, 4 or 5.
-pub(crate) fn failure_status(failure: &Failure) -> u8
+pub(crate) fn failure_status(failure: &CsvJobError) -> u8
     ensures { result ≡ failure_status failure.now }
 {
     match failure {
-        Failure::Words(_) => WRONG_WORDS,
-        Failure::Folder(FolderFault::NotAFolder)
-        | Failure::NotWhole { .. }
-        | Failure::Records { .. }
-        | Failure::Output {
+        CsvJobError::Words(_) => WRONG_WORDS,
+        CsvJobError::Folder(FolderFault::NotAFolder)
+        | CsvJobError::NotWhole { .. }
+        | CsvJobError::Records { .. }
+        | CsvJobError::Output {
             why: OutputFault::NotAFile,
             ..
         }
-        | Failure::TooMany => REFUSED,
-        Failure::Folder(FolderFault::CannotMake(_)) | Failure::Output { .. } | Failure::Memory => {
-            LATER
-        }
-        Failure::File { error, .. } => store_status(error),
-        Failure::Slice { error, .. } => run_status(error),
-        Failure::Rows(error) => rows_status(error),
+        | CsvJobError::TooMany => REFUSED,
+        CsvJobError::Folder(FolderFault::CannotMake(_))
+        | CsvJobError::Output { .. }
+        | CsvJobError::Memory => { LATER }
+        CsvJobError::File { error, .. } => store_status(error),
+        CsvJobError::Slice { error, .. } => run_status(error),
+        CsvJobError::Rows(error) => rows_status(error),
     }
 }

@@ -1,6 +1,6 @@
 //! What a job reports where it has no answer.
 
-use crate::failure::{Failure, FolderFault, OutputFault, WordsFault};
+use crate::failure::{CsvJobError, FolderFault, OutputFault, WordsFault};
 use crate::path::SlicePath;
 use crate::slice_text::{RunText, StoreText};
 use jb_rows::RowsError;
@@ -172,23 +172,23 @@ impl<'a> fmt::Display for RecordsText<'a> {
 
 /// Why a job has no answer, as it is reported: a text that begins with the name of the refusal.
 #[derive(Clone, Copy)]
-pub struct FailureText<'a, 'b, 'c> {
+pub struct CsvJobErrorText<'a, 'b, 'c> {
     /// The words of the job, as `CsvJob` has them.
     pub name: &'a str,
     pub input: &'a str,
     pub records: &'a str,
     /// FOLDER. It is empty while the words of the command line aren't read.
     pub folder: &'b str,
-    pub failure: &'c Failure,
+    pub failure: &'c CsvJobError,
 }
 
-impl<'a, 'b, 'c> fmt::Display for FailureText<'a, 'b, 'c> {
+impl<'a, 'b, 'c> fmt::Display for CsvJobErrorText<'a, 'b, 'c> {
     ghost use Rattle.jb_csv_job.specs.Failures.{job_failure_text};
 
     ghost output = { λ text. job_failure_text text.name.now text.input.now text.records.now text.folder.now text.failure.now };
 
     fn fmt<W: fmt::Write>(&self, f: &mut fmt::Formatter<W>) -> fmt::Result {
-        let FailureText {
+        let CsvJobErrorText {
             name,
             input,
             records,
@@ -196,9 +196,9 @@ impl<'a, 'b, 'c> fmt::Display for FailureText<'a, 'b, 'c> {
             failure,
         } = *self;
         match failure {
-            Failure::Words(fault) => write!(f, "{}", WordsText { name, input, fault }),
-            Failure::Folder(fault) => write!(f, "{}", FolderText { folder, fault }),
-            Failure::File { slice, error } => write!(
+            CsvJobError::Words(fault) => write!(f, "{}", WordsText { name, input, fault }),
+            CsvJobError::Folder(fault) => write!(f, "{}", FolderText { folder, fault }),
+            CsvJobError::File { slice, error } => write!(
                 f,
                 "{}",
                 StoreText {
@@ -209,7 +209,7 @@ impl<'a, 'b, 'c> fmt::Display for FailureText<'a, 'b, 'c> {
                     error
                 }
             ),
-            Failure::Slice { slice, error } => write!(
+            CsvJobError::Slice { slice, error } => write!(
                 f,
                 "{}",
                 RunText {
@@ -221,7 +221,7 @@ impl<'a, 'b, 'c> fmt::Display for FailureText<'a, 'b, 'c> {
                     error
                 }
             ),
-            Failure::NotWhole { slice } => write!(
+            CsvJobError::NotWhole { slice } => write!(
                 f,
                 "NotWhole: slice {slice}, {}: the slice isn't whole, and --collect runs nothing. Type the line that runs it, and then this one again.",
                 SlicePath {
@@ -229,7 +229,7 @@ impl<'a, 'b, 'c> fmt::Display for FailureText<'a, 'b, 'c> {
                     slice: *slice
                 }
             ),
-            Failure::Records {
+            CsvJobError::Records {
                 asked,
                 read,
                 is_end,
@@ -243,8 +243,8 @@ impl<'a, 'b, 'c> fmt::Display for FailureText<'a, 'b, 'c> {
                     is_end: *is_end
                 }
             ),
-            Failure::Rows(error) => write!(f, "{}", RowsText(error)),
-            Failure::Output { path, why } => write!(
+            CsvJobError::Rows(error) => write!(f, "{}", RowsText(error)),
+            CsvJobError::Output { path, why } => write!(
                 f,
                 "{}",
                 OutputText {
@@ -252,11 +252,11 @@ impl<'a, 'b, 'c> fmt::Display for FailureText<'a, 'b, 'c> {
                     why
                 }
             ),
-            Failure::TooMany => write!(
+            CsvJobError::TooMany => write!(
                 f,
                 "TooMany: there are too many {records}: their numbers end at 18,446,744,073,709,551,615."
             ),
-            Failure::Memory => f.write_str(
+            CsvJobError::Memory => f.write_str(
                 "Memory: out of memory. Type the same line again when there is more.",
             ),
         }

@@ -2,7 +2,7 @@
 
 use crate::asked::{Asked, Request};
 use crate::exit::exit_code;
-use crate::failure::Failure;
+use crate::failure::CsvJobError;
 use crate::host::Host;
 use crate::job::CsvJob;
 use crate::keeper::Drops;
@@ -22,7 +22,7 @@ use std::time::Clock;
 fn answer_of<
     F: RowFunction + Drop + 'static,
     T: Threads + Wait + Clock + Eprint + Host + Copy + Send + Sync + 'static,
->(rt: &T, job: &CsvJob, asked: &Asked, function: F) -> Result<JobEnd, Failure> {
+>(rt: &T, job: &CsvJob, asked: &Asked, function: F) -> Result<JobEnd, CsvJobError> {
     let host = rt.host();
     ready_folder(host, asked.folder.as_str())?;
     let path = match &asked.output {

@@ -1,6 +1,6 @@
 //! What comes of a job's files. Nothing is done here: the clause is the law.
 
-ghost use Rattle.jb_csv_job.specs.Kept.{LeftIsHeld};
+ghost use Rattle.jb_csv_job.specs.SliceFiles.{LeftIsHeld};
 
 /// What a crash leaves of a slice's files is what the next call takes up.
 pub fn crashes_are_resumed()

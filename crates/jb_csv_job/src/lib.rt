@@ -49,8 +49,8 @@ mod work;
 
 pub use asked::{Asked, OwnOption, Request, Task};
 pub use exit::exit_code;
-pub use failure::{Failure, FolderFault, OutputFault, WordsFault};
-pub use failure_text::FailureText;
+pub use failure::{CsvJobError, FolderFault, OutputFault, WordsFault};
+pub use failure_text::CsvJobErrorText;
 pub use folder::slice_path;
 pub use host::Host;
 pub use jb_answers::{Fate, FaultClass};

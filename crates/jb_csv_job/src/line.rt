@@ -8,14 +8,14 @@ ghost use Rattle.jb_csv_job.specs.CommandLine.{IsLine, IsWrong, is_collect};
 ghost use Rattle.jb_csv_job.specs.Matched.{all_in, first_in};
 
 use crate::asked::{Asked, Task};
-use crate::failure::{Failure, WordsFault};
+use crate::failure::{CsvJobError, WordsFault};
 use crate::values::{number_between, task_in};
 use clap::ArgMatches;
 use jb_base::MAX_THREADS;
 use std::alloc::Global;
 
 /// The number of threads: what `--threads` says, or else the default.
-fn threads_in(alloc: Global, matches: &ArgMatches<'_>, default: u32) -> Result<u32, Failure>
+fn threads_in(alloc: Global, matches: &ArgMatches<'_>, default: u32) -> Result<u32, CsvJobError>
     requires some { 1 ≤ default }
     requires few { default ≤ max_threads }
     ensures some { IfOk result (λ n. 1 ≤ n) }
@@ -28,12 +28,12 @@ fn threads_in(alloc: Global, matches: &ArgMatches<'_>, default: u32) -> Result<u
     };
     match number_between(1, MAX_THREADS as u64, text) {
         Some(threads) => Ok(threads as u32),
-        None => Err(Failure::Words(WordsFault::Threads(text.to_string(alloc)?))),
+        None => Err(CsvJobError::Words(WordsFault::Threads(text.to_string(alloc)?))),
     }
 }
 
 /// The number of records that `--records` says, if it is there.
-fn records_in(alloc: Global, matches: &ArgMatches<'_>) -> Result<Option<u64>, Failure>
+fn records_in(alloc: Global, matches: &ArgMatches<'_>) -> Result<Option<u64>, CsvJobError>
     ensures said { IfOk result (λ n. n ≡ option_and_then (number_between 0 (2 ^ 64 - 1)) (first_in matches.now (codes "records"))) }
     ensures wrong { IfErr result (IsWrong (first_in matches.now)) }
 {
@@ -42,12 +42,12 @@ fn records_in(alloc: Global, matches: &ArgMatches<'_>) -> Result<Option<u64>, Fa
     };
     match number_between(0, u64::MAX, text) {
         Some(records) => Ok(Some(records)),
-        None => Err(Failure::Words(WordsFault::Records(text.to_string(alloc)?))),
+        None => Err(CsvJobError::Words(WordsFault::Records(text.to_string(alloc)?))),
     }
 }
 
 /// What is done with the slices.
-fn task_of(alloc: Global, matches: &ArgMatches<'_>) -> Result<Task, Failure>
+fn task_of(alloc: Global, matches: &ArgMatches<'_>) -> Result<Task, CsvJobError>
     ensures task { IfOk result IsInParts }
     ensures said { IfOk result (λ task. task_in (is_collect (first_in matches.now (codes "collect"))) (first_in matches.now (codes "part")) ≡ Some task) }
     ensures wrong { IfErr result (IsWrong (first_in matches.now)) }
@@ -56,7 +56,7 @@ fn task_of(alloc: Global, matches: &ArgMatches<'_>) -> Result<Task, Failure>
     let part = matches.get_str("part");
     match task_in(is_collect, part) {
         Some(task) => Ok(task),
-        None => Err(Failure::Words(match part {
+        None => Err(CsvJobError::Words(match part {
             Some(text) if !is_collect => WordsFault::Part(text.to_string(alloc)?),
             _ => WordsFault::PartAndCollect,
         })),
@@ -64,9 +64,9 @@ fn task_of(alloc: Global, matches: &ArgMatches<'_>) -> Result<Task, Failure>
 }
 
 /// A text of its own, if there is one.
-fn own_text(alloc: Global, text: Option<&str>) -> Result<Option<String>, Failure>
+fn own_text(alloc: Global, text: Option<&str>) -> Result<Option<String>, CsvJobError>
     ensures text { IfOk result (λ own. option_map string_bytes own ≡ option_map (λ t. t.now) text.entry) }
-    ensures memory { IfErr result (λ e. e ≡ Failure.Memory) }
+    ensures memory { IfErr result (λ e. e ≡ CsvJobError.Memory) }
 {
     match text {
         Some(text) => Ok(Some(text.to_string(alloc)?)),
@@ -75,9 +75,9 @@ fn own_text(alloc: Global, text: Option<&str>) -> Result<Option<String>, Failure
 }
 
 /// Texts of their own.
-fn own_list(alloc: Global, texts: &[&str]) -> Result<Vec<String>, Failure>
+fn own_list(alloc: Global, texts: &[&str]) -> Result<Vec<String>, CsvJobError>
     ensures texts { IfOk result (λ own. map string_bytes own.items ≡ map (λ t. t.now) texts.now) }
-    ensures memory { IfErr result (λ e. e ≡ Failure.Memory) }
+    ensures memory { IfErr result (λ e. e ≡ CsvJobError.Memory) }
 {
     let mut own = Vec::new(alloc);
     for text in texts {
@@ -88,9 +88,9 @@ fn own_list(alloc: Global, texts: &[&str]) -> Result<Vec<String>, Failure>
 }
 
 /// The stamps that are kept.
-fn stamps_in(alloc: Global, matches: &ArgMatches<'_>) -> Result<Vec<String>, Failure>
+fn stamps_in(alloc: Global, matches: &ArgMatches<'_>) -> Result<Vec<String>, CsvJobError>
     ensures said { IfOk result (λ stamps. map string_bytes stamps.items ≡ unwrap_or (all_in matches.now (codes "keep-stamp")) []) }
-    ensures memory { IfErr result (λ e. e ≡ Failure.Memory) }
+    ensures memory { IfErr result (λ e. e ≡ CsvJobError.Memory) }
 {
     match matches.get_strs("keep-stamp") {
         Some(texts) => own_list(alloc, texts),
@@ -104,7 +104,7 @@ pub(crate) fn asked_in(
     matches: &ArgMatches<'_>,
     own: Option<&str>,
     default: u32,
-) -> Result<Asked, Failure>
+) -> Result<Asked, CsvJobError>
     requires some { 1 ≤ default }
     requires few { default ≤ max_threads }
     ensures said { IfOk result (IsLine (first_in matches.now) (all_in matches.now) (option_map (λ o. o.now) own.entry)) }
@@ -115,11 +115,11 @@ pub(crate) fn asked_in(
     let task = task_of(alloc, matches)?;
     let output = own_text(alloc, matches.get_str("output"))?;
     if matches!(task, Task::Part { .. }) && output.is_some() {
-        return Err(Failure::Words(WordsFault::PartAndOutput));
+        return Err(CsvJobError::Words(WordsFault::PartAndOutput));
     }
     let skipped = own_text(alloc, matches.get_str("skipped"))?;
     let Some(folder) = matches.get_str("FOLDER") else {
-        return Err(Failure::Words(WordsFault::NoFolder));
+        return Err(CsvJobError::Words(WordsFault::NoFolder));
     };
     let folder = folder.to_string(alloc)?;
     let stamps = stamps_in(alloc, matches)?;

@@ -6,17 +6,17 @@ ghost use Rattle.sqlite_wal.specs.Recovery.{Image};
 ghost use Rattle.jb_collect.specs.declared.calls.Status.TheVariants.{Completed, Failed};
 ghost use Rattle.jb_rows.specs.Fields.{Fields, packed};
 ghost use Rattle.jb_rows.specs.Texts.{AreRowsOf};
-ghost use Rattle.jb_slice_run.specs.Step.{AreOf};
+ghost use Rattle.jb_slice_run.specs.Step.{AreStampsOf};
 ghost use Rattle.jb_slices.specs.Function.{Function};
 ghost use Rattle.jb_slices.specs.Job.{HasSlice, slice_at};
 ghost use Rattle.jb_slices.specs.Slice.{Functions};
 ghost use Rattle.jb_csv_job.specs.Job.{identity_of, job_record, stamps_of};
-ghost use Rattle.jb_csv_job.specs.Kept.{HoldsSlice, image_by, slice_of};
-ghost use Rattle.jb_csv_job.specs.Loop.{AreDone, HasGoneOn, IsLeft, IsOfText, StandsBefore};
+ghost use Rattle.jb_csv_job.specs.SliceFiles.{HoldsSlice, image_by, slice_of};
+ghost use Rattle.jb_csv_job.specs.Loop.{AreDone, HasGoneOn, IsLeft, IsSliceOfText, StandsBefore};
 ghost use Rattle.jb_csv_job.specs.Slices.{IsSliceEnd};
 ghost use Rattle.jb_csv_job.specs.Tasks.{is_own as is_own_of};
 
-use crate::failure::Failure;
+use crate::failure::CsvJobError;
 use crate::giving::{give, is_own};
 use crate::host::Host;
 use crate::keeper::Keeper;
@@ -42,7 +42,7 @@ fn settle<N: Sink>(
     end: &SliceEnd,
     sink: &mut N,
     tally: &mut Tally,
-) -> Result<bool, Failure>
+) -> Result<bool, CsvJobError>
     requires { (end.now.status ≡ Completed) ⊎ (end.now.status ≡ Failed) }
     ensures goes { (f : Function) (items : List (List ℕ)) (number : ℕ) → is_own_of work.now.asked.now.task number ≡ true → HasSlice (identity_of work.now.job.now) items number
         → IsSliceEnd (job_record work.now.job.now work.now.asked.now f) number (slice_at (identity_of work.now.job.now) items number) end.now
@@ -80,14 +80,14 @@ pub(crate) fn next_slice<
     keeper: &mut K,
     reporter: &mut Reporter,
     tally: &mut Tally,
-) -> Result<bool, Failure>
+) -> Result<bool, CsvJobError>
     // The reader goes on to the next slice.
     ensures reads { (text : List ℕ) (records : List Fields) → AreRowsOf work.now.job.now.options text records
         → StandsBefore (job_record work.now.job.now work.now.asked.now (F.answer (arc_value function.now))) R.remaining text records number reader.old
         → IfOk result (λ more. more ≡ true → StandsBefore (job_record work.now.job.now work.now.asked.now (F.answer (arc_value function.now))) R.remaining text records (suc number) reader.new) }
 
     // And so does the job.
-    ensures goes { IsTrue (K.are_clean keeper.new) → (functions : Functions) → AreOf functions (F.answer (arc_value function.now)) (stamps_of work.now.job.now work.now.asked.now)
+    ensures goes { IsTrue (K.are_clean keeper.new) → (functions : Functions) → AreStampsOf functions (F.answer (arc_value function.now)) (stamps_of work.now.job.now work.now.asked.now)
         → (text : List ℕ) (records : List Fields) → AreRowsOf work.now.job.now.options text records
         → StandsBefore (job_record work.now.job.now work.now.asked.now (F.answer (arc_value function.now))) R.remaining text records number reader.old
         → (is_own_of work.now.asked.now.task number ≡ true
@@ -101,13 +101,13 @@ pub(crate) fn next_slice<
     ensures clean { IsTrue (K.are_clean keeper.new) → IsTrue (K.are_clean keeper.old) }
 
     // What a crash leaves of the files of this slice.
-    ensures crash { IsTrue (K.are_clean keeper.new) → (functions : Functions) → AreOf functions (F.answer (arc_value function.now)) (stamps_of work.now.job.now work.now.asked.now)
+    ensures crash { IsTrue (K.are_clean keeper.new) → (functions : Functions) → AreStampsOf functions (F.answer (arc_value function.now)) (stamps_of work.now.job.now work.now.asked.now)
         → (k : ℕ) (read : List (List ℕ)) (image : Image) → K.may_leave keeper.new k read image
         → IsLeft (job_record work.now.job.now work.now.asked.now (F.answer (arc_value function.now))) functions (image_by H.log H.db number) number (map packed rows.new) (K.may_leave keeper.old k read image) k read image }
     ensures items { IsTrue (K.are_clean keeper.new) → (text : List ℕ) (records : List Fields) → AreRowsOf work.now.job.now.options text records
         → StandsBefore (job_record work.now.job.now work.now.asked.now (F.answer (arc_value function.now))) R.remaining text records number reader.old
         → (k : ℕ) (read : List (List ℕ)) (image : Image) → K.may_leave keeper.new k read image
-        → IsOfText (job_record work.now.job.now work.now.asked.now (F.answer (arc_value function.now))) records (K.may_leave keeper.old k read image) k read }
+        → IsSliceOfText (job_record work.now.job.now work.now.asked.now (F.answer (arc_value function.now))) records (K.may_leave keeper.old k read image) k read }
 {
     let is_last = read_slice(work, reader, rows, tally)?;
     if !is_own(work.asked.task, number) {

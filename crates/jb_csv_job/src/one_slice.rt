@@ -12,30 +12,30 @@ ghost use Rattle.sqlite_wal.specs.Recovery.{Image};
 ghost use Rattle.jb_collect.specs.declared.calls.Status.TheVariants.{Completed, Failed};
 ghost use Rattle.jb_slice_run.specs.durable.Work.{IfResumed};
 ghost use Rattle.jb_slice_file.specs.Connections.{IsJustOpened};
-ghost use Rattle.jb_slice_file.specs.Files.{HoldsRun, IsOfARun};
+ghost use Rattle.jb_slice_file.specs.Files.{HoldsRun, HasRunCheckpoints};
 ghost use Rattle.jb_slice_file.specs.Rows.{Has, ShowsList};
-ghost use Rattle.jb_slice_run.specs.Step.{AreOf};
+ghost use Rattle.jb_slice_run.specs.Step.{AreStampsOf};
 ghost use Rattle.jb_slices.specs.Slice.{Functions};
 ghost use Rattle.jb_csv_job.specs.Job.{job_record, stamps_of};
-ghost use Rattle.jb_csv_job.specs.Kept.{HoldsSlice, KeepsOwn};
+ghost use Rattle.jb_csv_job.specs.SliceFiles.{HoldsSlice, KeepsOwn};
 ghost use Rattle.jb_csv_job.specs.Loop.{IsLeft};
 ghost use Rattle.jb_csv_job.specs.Slices.{IsSliceEnd};
 
 use crate::asked::Task;
-use crate::failure::Failure;
+use crate::failure::CsvJobError;
 use crate::folder::{is_missing, slice_path};
 use crate::host::Host;
 use crate::keeper::Keeper;
 use crate::kinds::other_kind;
 use crate::meter::Meter;
-use crate::progress::Told;
+use crate::progress::StderrProgress;
 use crate::stopping::is_stopped;
 use crate::stored::{Before, OneStored};
 use crate::work::Work;
 use jb_base::PackedList;
 use jb_rows::RowFunction;
-use jb_slice_run::{ASecond, DurableError, SliceEnd, collect_slice, run_slice};
 use jb_slice_file::{closed, connect};
+use jb_slice_run::{ASecond, DurableError, SliceEnd, collect_slice, run_slice};
 use sqlite::{Alter, Connection, FileFrom, FileStore, Files, Start};
 use sqlite_disk::Disk;
 use std::alloc::Global;
@@ -58,16 +58,16 @@ fn ran<
     meter: &mut Meter,
     function: &Arc<F, Global>,
     items: &PackedList,
-) -> Result<SliceEnd, Failure>
+) -> Result<SliceEnd, CsvJobError>
     ensures ended { IfResumed work.now.slice (F.answer (arc_value function.now)) number items.now (state S.Store conn.old) (state S.Store conn.new) (λ w all.
         IfOk result (IsSliceEnd (job_record work.now.job.now work.now.asked.now (F.answer (arc_value function.now))) number items.now)) }
     ensures status { IfOk result (λ end. (end.status ≡ Completed) ⊎ (end.status ≡ Failed)) }
     ensures clean { doubt (state S.Store conn.old).is_clean ≤ doubt (state S.Store conn.new).is_clean }
     ensures crash { IfResumed work.now.slice (F.answer (arc_value function.now)) number items.now (state S.Store conn.old) (state S.Store conn.new) (λ w all.
         (db : _) → (state S.Store conn.new).may_leave db
-        → IsOfARun (λ kept. KeepsOwn (job_record work.now.job.now work.now.asked.now (F.answer (arc_value function.now))) w.functions number items.now kept) db) }
+        → HasRunCheckpoints (λ kept. KeepsOwn (job_record work.now.job.now work.now.asked.now (F.answer (arc_value function.now))) w.functions number items.now kept) db) }
 {
-    let told = Told {
+    let listener = StderrProgress {
         rt: *rt,
         folder: work.asked.folder.as_str(),
         records: work.job.records,
@@ -75,7 +75,7 @@ fn ran<
         slice: number,
         records_before: number.saturating_mul(work.job.slice_length),
         results_before,
-        told: None,
+        listener: None,
         meter,
     };
     match run_slice(
@@ -87,10 +87,10 @@ fn ran<
         function,
         items,
         ASecond::new(*rt),
-        told,
+        listener,
     ) {
         Ok(end) => Ok(end),
-        Err(error) => Err(Failure::Slice {
+        Err(error) => Err(CsvJobError::Slice {
             slice: number,
             error,
         }),
@@ -105,19 +105,19 @@ fn collected<F: RowFunction + Drop + 'static, S: Alter>(
     number: u64,
     function: &Arc<F, Global>,
     items: &PackedList,
-) -> Result<SliceEnd, Failure>
+) -> Result<SliceEnd, CsvJobError>
     ensures ended { IfResumed work.now.slice (F.answer (arc_value function.now)) number items.now (state S.Store conn.old) (state S.Store conn.new) (λ w all.
         IfOk result (IsSliceEnd (job_record work.now.job.now work.now.asked.now (F.answer (arc_value function.now))) number items.now)) }
     ensures status { IfOk result (λ end. (end.status ≡ Completed) ⊎ (end.status ≡ Failed)) }
     ensures clean { doubt (state S.Store conn.old).is_clean ≤ doubt (state S.Store conn.new).is_clean }
     ensures crash { IfResumed work.now.slice (F.answer (arc_value function.now)) number items.now (state S.Store conn.old) (state S.Store conn.new) (λ w all.
         (db : _) → (state S.Store conn.new).may_leave db
-        → IsOfARun (λ kept. KeepsOwn (job_record work.now.job.now work.now.asked.now (F.answer (arc_value function.now))) w.functions number items.now kept) db) }
+        → HasRunCheckpoints (λ kept. KeepsOwn (job_record work.now.job.now work.now.asked.now (F.answer (arc_value function.now))) w.functions number items.now kept) db) }
 {
     match collect_slice(alloc, conn, &work.slice, number, function, items) {
         Ok(Some(end)) => Ok(end),
-        Ok(None) => Err(Failure::NotWhole { slice: number }),
-        Err(error) => Err(Failure::Slice {
+        Ok(None) => Err(CsvJobError::NotWhole { slice: number }),
+        Err(error) => Err(CsvJobError::Slice {
             slice: number,
             error,
         }),
@@ -139,14 +139,14 @@ fn answered<
     meter: &mut Meter,
     function: &Arc<F, Global>,
     items: &PackedList,
-) -> Result<SliceEnd, Failure>
+) -> Result<SliceEnd, CsvJobError>
     ensures ended { IfResumed work.now.slice (F.answer (arc_value function.now)) number items.now (state S.Store conn.old) (state S.Store conn.new) (λ w all.
         IfOk result (IsSliceEnd (job_record work.now.job.now work.now.asked.now (F.answer (arc_value function.now))) number items.now)) }
     ensures status { IfOk result (λ end. (end.status ≡ Completed) ⊎ (end.status ≡ Failed)) }
     ensures clean { doubt (state S.Store conn.old).is_clean ≤ doubt (state S.Store conn.new).is_clean }
     ensures crash { IfResumed work.now.slice (F.answer (arc_value function.now)) number items.now (state S.Store conn.old) (state S.Store conn.new) (λ w all.
         (db : _) → (state S.Store conn.new).may_leave db
-        → IsOfARun (λ kept. KeepsOwn (job_record work.now.job.now work.now.asked.now (F.answer (arc_value function.now))) w.functions number items.now kept) db) }
+        → HasRunCheckpoints (λ kept. KeepsOwn (job_record work.now.job.now work.now.asked.now (F.answer (arc_value function.now))) w.functions number items.now kept) db) }
 {
     if is_collected(work) {
         return collected(alloc, conn, work, number, function, items);
@@ -176,31 +176,31 @@ fn opened<S: Start>(
     work: &Work,
     number: u64,
     start: S,
-) -> Result<Connection<FileStore<FileFrom<S>>>, Failure>
+) -> Result<Connection<FileStore<FileFrom<S>>>, CsvJobError>
     ensures opened { IfOk result (λ conn. HasCleanDisk (file_state conn) → IsJustOpened (file_state conn)) }
     ensures found { IfOk result (λ conn. HasCleanDisk (file_state conn) → (db : _) (all : _) → HoldsDatabase (image_at S.Start) db → Has db all → ShowsList (file_state conn).now all) }
     ensures nothing { IfOk result (λ conn. HasCleanDisk (file_state conn) → IsNothing (image_at S.Start) → ShowsList (file_state conn).now []) }
 {
     let folder = work.asked.folder.as_str();
     if is_stopped(host, folder) {
-        return Err(Failure::Slice {
+        return Err(CsvJobError::Slice {
             slice: number,
             error: DurableError::Stopped,
         });
     }
     let path = slice_path(host.alloc(), folder, number)?;
     if is_collected(work) && is_missing(host, path.as_str()) {
-        return Err(Failure::NotWhole { slice: number });
+        return Err(CsvJobError::NotWhole { slice: number });
     }
     if let Some(error) = other_kind(host, path.as_str()) {
-        return Err(Failure::File {
+        return Err(CsvJobError::File {
             slice: number,
             error,
         });
     }
     match connect(host, path.as_str(), start) {
         Ok(conn) => Ok(conn),
-        Err(error) => Err(Failure::File {
+        Err(error) => Err(CsvJobError::File {
             slice: number,
             error,
         }),
@@ -222,15 +222,15 @@ pub(crate) fn run_slice_at<
     start: S,
     function: &Arc<F, Global>,
     items: &PackedList,
-) -> Result<(Files<FileFrom<S>>, Result<SliceEnd, Failure>), Failure>
+) -> Result<(Files<FileFrom<S>>, Result<SliceEnd, CsvJobError>), CsvJobError>
     // Over files that held the slice so far, or nothing, it ends by what it says of its items.
-    ensures ended { IfOk result (λ r. AreClean ⟦<FileFrom<S> as Disk>⟧ r.0.log r.0.db → (functions : Functions) → AreOf functions (F.answer (arc_value function.now)) (stamps_of work.now.job.now work.now.asked.now)
+    ensures ended { IfOk result (λ r. AreClean ⟦<FileFrom<S> as Disk>⟧ r.0.log r.0.db → (functions : Functions) → AreStampsOf functions (F.answer (arc_value function.now)) (stamps_of work.now.job.now work.now.asked.now)
         → HoldsSlice (job_record work.now.job.now work.now.asked.now (F.answer (arc_value function.now))) functions number items.now (image_at S.Start)
         → IfOk r.1 (IsSliceEnd (job_record work.now.job.now work.now.asked.now (F.answer (arc_value function.now))) number items.now)) }
     ensures status { IfOk result (λ r. IfOk r.1 (λ end. (end.status ≡ Completed) ⊎ (end.status ≡ Failed))) }
 
     // Whatever a crash leaves of them holds the slice so far again.
-    ensures crash { IfOk result (λ r. AreClean ⟦<FileFrom<S> as Disk>⟧ r.0.log r.0.db → (functions : Functions) → AreOf functions (F.answer (arc_value function.now)) (stamps_of work.now.job.now work.now.asked.now)
+    ensures crash { IfOk result (λ r. AreClean ⟦<FileFrom<S> as Disk>⟧ r.0.log r.0.db → (functions : Functions) → AreStampsOf functions (F.answer (arc_value function.now)) (stamps_of work.now.job.now work.now.asked.now)
         → HoldsSlice (job_record work.now.job.now work.now.asked.now (F.answer (arc_value function.now))) functions number items.now (image_at S.Start)
         → (image : Image) → outcomes ⟦<FileFrom<S> as Disk>⟧ r.0.log r.0.db image
         → HoldsRun (KeepsOwn (job_record work.now.job.now work.now.asked.now (F.answer (arc_value function.now))) functions number items.now) image) }
@@ -266,13 +266,13 @@ pub(crate) fn kept_slice<
     function: &Arc<F, Global>,
     items: &PackedList,
     keeper: &mut K,
-) -> Result<SliceEnd, Failure>
-    ensures ended { IsTrue (K.are_clean keeper.new) → (functions : Functions) → AreOf functions (F.answer (arc_value function.now)) (stamps_of work.now.job.now work.now.asked.now)
+) -> Result<SliceEnd, CsvJobError>
+    ensures ended { IsTrue (K.are_clean keeper.new) → (functions : Functions) → AreStampsOf functions (F.answer (arc_value function.now)) (stamps_of work.now.job.now work.now.asked.now)
         → HoldsSlice (job_record work.now.job.now work.now.asked.now (F.answer (arc_value function.now))) functions number items.now (record { log = G.log; db = G.db })
         → IfOk result (IsSliceEnd (job_record work.now.job.now work.now.asked.now (F.answer (arc_value function.now))) number items.now) }
     ensures status { IfOk result (λ end. (end.status ≡ Completed) ⊎ (end.status ≡ Failed)) }
     ensures clean { IsTrue (K.are_clean keeper.new) → IsTrue (K.are_clean keeper.old) }
-    ensures crash { IsTrue (K.are_clean keeper.new) → (functions : Functions) → AreOf functions (F.answer (arc_value function.now)) (stamps_of work.now.job.now work.now.asked.now)
+    ensures crash { IsTrue (K.are_clean keeper.new) → (functions : Functions) → AreStampsOf functions (F.answer (arc_value function.now)) (stamps_of work.now.job.now work.now.asked.now)
         → (k : ℕ) (read : List (List ℕ)) (image : Image) → K.may_leave keeper.new k read image
         → IsLeft (job_record work.now.job.now work.now.asked.now (F.answer (arc_value function.now))) functions (record { log = G.log; db = G.db }) number items.now (K.may_leave keeper.old k read image) k read image }
     ensures items { IsTrue (K.are_clean keeper.new) → (k : ℕ) (read : List (List ℕ)) (image : Image) → K.may_leave keeper.new k read image

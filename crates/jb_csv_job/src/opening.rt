@@ -1,6 +1,6 @@
 //! The folder of the slices' files.
 
-use crate::failure::{Failure, FolderFault};
+use crate::failure::{CsvJobError, FolderFault};
 use crate::history::{Event, note};
 use std::fs;
 use std::io::ErrorKind;
@@ -9,10 +9,10 @@ use std::io::ErrorKind;
 ///
 /// # Errors
 /// `Folder`: something else has that name, or the folder can't be made or looked at.
-pub fn ready_folder(host: &HostRuntime, folder: &str) -> Result<(), Failure> {
+pub fn ready_folder(host: &HostRuntime, folder: &str) -> Result<(), CsvJobError> {
     let made = match fs::metadata(host, folder) {
         Ok(found) if found.is_dir() => Ok(()),
-        Ok(_) => return Err(Failure::Folder(FolderFault::NotAFolder)),
+        Ok(_) => return Err(CsvJobError::Folder(FolderFault::NotAFolder)),
         Err(error) if error.kind() == ErrorKind::NotFound => fs::create_dir_all(host, folder),
         Err(error) => Err(error),
     };
@@ -21,6 +21,6 @@ pub fn ready_folder(host: &HostRuntime, folder: &str) -> Result<(), Failure> {
             note(host, folder, &Event::Begin);
             Ok(())
         }
-        Err(error) => Err(Failure::Folder(FolderFault::CannotMake(error))),
+        Err(error) => Err(CsvJobError::Folder(FolderFault::CannotMake(error))),
     }
 }

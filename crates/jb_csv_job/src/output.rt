@@ -3,7 +3,7 @@
 ghost use Rattle.std.specs.Prelude.{◌≡◌};
 ghost use Rattle.jb_csv_job.specs.declared.failure.OutputFault.TheVariants.{CannotWrite};
 
-use crate::failure::{Failure, OutputFault};
+use crate::failure::{CsvJobError, OutputFault};
 use std::fs::{File, TryLockError};
 use std::io::{ErrorKind, Stdout, Write};
 use std::os::unix::fs::MetadataExt;
@@ -83,13 +83,13 @@ fn sync_folder(host: &HostRuntime, path: &str) -> io::Result<()> {
 }
 
 impl PartFile {
-    fn open(host: &HostRuntime, path: &str) -> Result<PartFile, Failure> {
+    fn open(host: &HostRuntime, path: &str) -> Result<PartFile, CsvJobError> {
         let alloc = host.alloc();
         let part = format!(in alloc; "{path}.part")?;
         let path = path.to_string(alloc)?;
         match opened(host, path.as_str(), part.as_str()) {
             Ok(file) => Ok(PartFile { file, path, part }),
-            Err(why) => Err(Failure::Output { path, why }),
+            Err(why) => Err(CsvJobError::Output { path, why }),
         }
     }
 
@@ -106,7 +106,7 @@ impl Output {
     ///
     /// # Errors
     /// `Output`: PATH is no regular file; another process writes it so; or it can't be written. `Memory`.
-    pub fn open(host: &HostRuntime, path: Option<&str>) -> Result<Output, Failure> {
+    pub fn open(host: &HostRuntime, path: Option<&str>) -> Result<Output, CsvJobError> {
         let to = match path {
             None => Target::Standard(host.stdout()),
             Some(path) => Target::File(PartFile::open(host, path)?),
@@ -119,11 +119,11 @@ impl Output {
     ///
     /// # Errors
     /// `Output`.
-    pub fn close(self, host: &HostRuntime, is_completed: bool) -> Result<(), Failure> {
+    pub fn close(self, host: &HostRuntime, is_completed: bool) -> Result<(), CsvJobError> {
         match self.to {
             Target::File(file) if is_completed => match file.put_in_place(host) {
                 Ok(()) => Ok(()),
-                Err(error) => Err(Failure::Output {
+                Err(error) => Err(CsvJobError::Output {
                     path: file.path,
                     why: OutputFault::CannotWrite(error),
                 }),

@@ -4,7 +4,7 @@ use crate::history::{Event, note};
 use crate::host::Host;
 use crate::meter::Meter;
 use crate::stopping::is_stopped;
-use jb_slice_run::{Onlooker, Progress};
+use jb_slice_run::{Progress, ProgressListener};
 use std::fmt;
 use std::io::IsTerminal;
 use std::time::Clock;
@@ -51,7 +51,7 @@ pub(crate) fn clear_line<T: Eprint + Host>(rt: &T) {
 /// that is done, and the pace: in one line that is written over, if it is a terminal, else in a line a checkpoint. It keeps the checkpoint in the
 /// folder's history. The slice goes on until FOLDER/stop is there.
 #[derive(Drop)]
-pub(crate) struct Told<'a, T> {
+pub(crate) struct StderrProgress<'a, T> {
     pub rt: T,
     /// FOLDER.
     pub folder: &'a str,
@@ -64,17 +64,17 @@ pub(crate) struct Told<'a, T> {
     pub records_before: u64,
     pub results_before: u64,
     /// How many records of the slice were done at its last checkpoint that was told.
-    pub told: Option<u64>,
+    pub listener: Option<u64>,
     pub meter: &'a mut Meter,
 }
 
-impl<'a, T: Clock + Eprint + Host> Onlooker for Told<'a, T> {
-    fn told(&mut self, progress: Progress) -> bool {
-        let more = match self.told {
+impl<'a, T: Clock + Eprint + Host> ProgressListener for StderrProgress<'a, T> {
+    fn on_progress(&mut self, progress: Progress) -> bool {
+        let more = match self.listener {
             Some(before) => progress.done.saturating_sub(before),
             None => 0,
         };
-        self.told = Some(progress.done);
+        self.listener = Some(progress.done);
         let text = ProgressText {
             slice: self.slice,
             done: self.records_before.saturating_add(progress.done),

@@ -7,7 +7,7 @@ ghost use Rattle.jb_slices.specs.Function.{Function};
 ghost use Rattle.jb_csv_job.specs.Job.{job_record};
 ghost use Rattle.jb_csv_job.specs.Loop.{IsSliceRead, StandsBefore};
 
-use crate::failure::Failure;
+use crate::failure::CsvJobError;
 use crate::tally::Tally;
 use crate::work::Work;
 use jb_rows::{Rows, RowsReader};
@@ -21,7 +21,7 @@ pub(crate) fn read_slice<R: Read>(
     reader: &mut RowsReader<R>,
     rows: &mut Rows,
     tally: &mut Tally,
-) -> Result<bool, Failure>
+) -> Result<bool, CsvJobError>
     ensures read { (f : Function) (text : List ℕ) (records : List Fields) (number : ℕ) → AreRowsOf work.now.job.now.options text records
         → StandsBefore (job_record work.now.job.now work.now.asked.now f) R.remaining text records number reader.old
         → IfOk result (IsSliceRead (job_record work.now.job.now work.now.asked.now f) R.remaining text records number reader.new rows.new) }

@@ -4,7 +4,7 @@ ghost use Rattle.std.specs.Prelude.{◌≡◌, ◌+◌, ◌≤◌, length, OnOk}
 ghost use Rattle.jb_csv_job.specs.Reports.{line_at, named_skips};
 
 use crate::asked::Asked;
-use crate::failure::Failure;
+use crate::failure::CsvJobError;
 use crate::history::{Event, note, skips_by_class};
 use crate::host::Host;
 use crate::job::CsvJob;
@@ -13,7 +13,7 @@ use crate::progress::clear_line;
 use crate::skipped::{SkipList, SliceRecords};
 use jb_answers::{FaultClass, name_of};
 use jb_rows::Rows;
-use jb_slice_run::{Failure as FailedPartition, Fault, SliceEnd};
+use jb_slice_run::{Fault, PartitionFailure, SliceEnd};
 use std::fmt;
 use std::time::Clock;
 
@@ -133,7 +133,7 @@ impl Reporter {
         job: &CsvJob,
         asked: &Asked,
         header: &Rows,
-    ) -> Result<Reporter, Failure> {
+    ) -> Result<Reporter, CsvJobError> {
         let list = match &asked.skipped {
             Some(path) => Some(SkipList::open(rt.host(), job, header, path.as_str())?),
             None => None,
@@ -170,7 +170,7 @@ impl Reporter {
         records: &Rows,
         lines: &[u64],
         end: &SliceEnd,
-    ) -> Result<(), Failure> {
+    ) -> Result<(), CsvJobError> {
         note_slice(rt.host(), job, folder, slice, end);
         clear_line(rt);
         let first = slice.saturating_mul(job.slice_length);
@@ -209,7 +209,7 @@ impl Reporter {
     ///
     /// # Errors
     /// `Output`.
-    pub fn finish<T: Eprint + Host>(&mut self, rt: &T, job: &CsvJob) -> Result<(), Failure> {
+    pub fn finish<T: Eprint + Host>(&mut self, rt: &T, job: &CsvJob) -> Result<(), CsvJobError> {
         let others = self.skips.saturating_sub(MOST_NAMED);
         if others > 0 {
             clear_line(rt);
@@ -245,7 +245,7 @@ fn report_failure<T: Eprint>(
     slice: u64,
     first: u64,
     lines: &[u64],
-    failure: &FailedPartition,
+    failure: &PartitionFailure,
 ) {
     let text = FailText {
         slice,

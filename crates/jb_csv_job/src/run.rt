@@ -4,15 +4,15 @@ ghost use Rattle.std.specs.Prelude.{◌≡◌, ◌⊎◌, ℕ, Some, List, IfOk,
 ghost use Rattle.std.specs.Arc.{arc_value};
 ghost use Rattle.sqlite_wal.specs.Recovery.{Image};
 ghost use Rattle.jb_slice_file.specs.Files.{HoldsRun};
-ghost use Rattle.jb_slice_run.specs.Step.{AreOf};
+ghost use Rattle.jb_slice_run.specs.Step.{AreStampsOf};
 ghost use Rattle.jb_slices.specs.Slice.{Functions};
 ghost use Rattle.jb_csv_job.specs.Done.{HasEnded, HasSkipped, HasTakenAll, HasTakenSoFar, IsByRules, IsDoneSoFar, IsJobDone};
 ghost use Rattle.jb_csv_job.specs.Job.{job_record, stamps_of};
-ghost use Rattle.jb_csv_job.specs.Kept.{HoldsSlice, IsTakenUp, KeepsOwn, LeavesSlice, image_by};
-ghost use Rattle.jb_csv_job.specs.Loop.{IfTakenUp, IsLeftOfAny};
+ghost use Rattle.jb_csv_job.specs.SliceFiles.{HoldsSlice, CanResumeJob, KeepsOwn, LeavesSlice, image_by};
+ghost use Rattle.jb_csv_job.specs.Loop.{IfJobResumes, IsLeftOfAny};
 
 use crate::asked::Asked;
-use crate::failure::Failure;
+use crate::failure::CsvJobError;
 use crate::host::Host;
 use crate::job::CsvJob;
 use crate::keeper::Keeper;
@@ -59,17 +59,17 @@ fn all_slices<
     reader: &mut RowsReader<R>,
     sink: &mut N,
     keeper: &mut K,
-) -> Result<JobEnd, Failure>
-    ensures ends { IsTrue (K.are_clean keeper.new) → IfTakenUp (job_record work.now.job.now work.now.asked.now (F.answer (arc_value function.now))) R.remaining reader.old H.log H.db (λ functions text.
+) -> Result<JobEnd, CsvJobError>
+    ensures ends { IsTrue (K.are_clean keeper.new) → IfJobResumes (job_record work.now.job.now work.now.asked.now (F.answer (arc_value function.now))) R.remaining reader.old H.log H.db (λ functions text.
         IfOk result (λ end. HasEnded (job_record work.now.job.now work.now.asked.now (F.answer (arc_value function.now))) (Some text) (N.took sink.old sink.new) end.status end.skips)) }
-    ensures so_far { IsTrue (K.are_clean keeper.new) → IfTakenUp (job_record work.now.job.now work.now.asked.now (F.answer (arc_value function.now))) R.remaining reader.old H.log H.db (λ functions text.
+    ensures so_far { IsTrue (K.are_clean keeper.new) → IfJobResumes (job_record work.now.job.now work.now.asked.now (F.answer (arc_value function.now))) R.remaining reader.old H.log H.db (λ functions text.
         MatchResult result (λ end. HasTakenSoFar (job_record work.now.job.now work.now.asked.now (F.answer (arc_value function.now))) (Some text) (N.took sink.old sink.new)) (λ e. N.may_refuse e ⊎ HasTakenSoFar (job_record work.now.job.now work.now.asked.now (F.answer (arc_value function.now))) (Some text) (N.took sink.old sink.new))) }
     ensures status { IfOk result (λ end. (end.status ≡ 0) ⊎ (end.status ≡ 1)) }
     ensures clean { IsTrue (K.are_clean keeper.new) → IsTrue (K.are_clean keeper.old) }
-    ensures left { IsTrue (K.are_clean keeper.new) → IfTakenUp (job_record work.now.job.now work.now.asked.now (F.answer (arc_value function.now))) R.remaining reader.old H.log H.db (λ functions text.
+    ensures left { IsTrue (K.are_clean keeper.new) → IfJobResumes (job_record work.now.job.now work.now.asked.now (F.answer (arc_value function.now))) R.remaining reader.old H.log H.db (λ functions text.
         (k : ℕ) (items : List (List ℕ)) (image : Image) → K.may_leave keeper.new k items image
         → K.may_leave keeper.old k items image ⊎ LeavesSlice (job_record work.now.job.now work.now.asked.now (F.answer (arc_value function.now))) functions (Some text) k image) }
-    ensures crash { IsTrue (K.are_clean keeper.new) → (functions : Functions) → AreOf functions (F.answer (arc_value function.now)) (stamps_of work.now.job.now work.now.asked.now)
+    ensures crash { IsTrue (K.are_clean keeper.new) → (functions : Functions) → AreStampsOf functions (F.answer (arc_value function.now)) (stamps_of work.now.job.now work.now.asked.now)
         → (k : ℕ) (items : List (List ℕ)) (image : Image) → K.may_leave keeper.new k items image
         → IsLeftOfAny (job_record work.now.job.now work.now.asked.now (F.answer (arc_value function.now))) functions (image_by H.log H.db) (K.may_leave keeper.old k items image) k items image }
 {
@@ -97,7 +97,7 @@ fn all_slices<
             return Ok(tally.end());
         }
     }
-    Err(Failure::TooMany)
+    Err(CsvJobError::TooMany)
 }
 
 /// Reads the records, slice by slice, and runs each slice over its file from its last checkpoint on, or collects it; and gives its results to
@@ -123,22 +123,22 @@ pub fn run_slices<
     reader: &mut RowsReader<R>,
     sink: &mut N,
     keeper: &mut K,
-) -> Result<JobEnd, Failure>
+) -> Result<JobEnd, CsvJobError>
     // With status 0 the sink took the results of all records, whatever earlier runs the files are of.
-    ensures all { IsTrue (K.are_clean keeper.new) → IfTakenUp (job_record job.now asked.now (F.answer function)) R.remaining reader.old H.log H.db (λ functions text.
+    ensures all { IsTrue (K.are_clean keeper.new) → IfJobResumes (job_record job.now asked.now (F.answer function)) R.remaining reader.old H.log H.db (λ functions text.
         IfOk result (λ end. end.status ≡ 0 → HasTakenAll (job_record job.now asked.now (F.answer function)) (Some text) (N.took sink.old sink.new))) }
 
     // With any answer but the sink's own failure it took those of the first slices.
-    ensures so_far { IsTrue (K.are_clean keeper.new) → IfTakenUp (job_record job.now asked.now (F.answer function)) R.remaining reader.old H.log H.db (λ functions text.
+    ensures so_far { IsTrue (K.are_clean keeper.new) → IfJobResumes (job_record job.now asked.now (F.answer function)) R.remaining reader.old H.log H.db (λ functions text.
         MatchResult result (λ end. HasTakenSoFar (job_record job.now asked.now (F.answer function)) (Some text) (N.took sink.old sink.new))
         (λ e. N.may_refuse e ⊎ HasTakenSoFar (job_record job.now asked.now (F.answer function)) (Some text) (N.took sink.old sink.new))) }
 
     // The status is by the job's rules, whatever was kept and however many runs it took.
-    ensures by_rules { IsTrue (K.are_clean keeper.new) → IfTakenUp (job_record job.now asked.now (F.answer function)) R.remaining reader.old H.log H.db (λ functions text.
+    ensures by_rules { IsTrue (K.are_clean keeper.new) → IfJobResumes (job_record job.now asked.now (F.answer function)) R.remaining reader.old H.log H.db (λ functions text.
         IfOk result (λ end. IsByRules (job_record job.now asked.now (F.answer function)) (Some text) end.status)) }
 
     // With status 0 it counts the records that have a fault.
-    ensures skips { IsTrue (K.are_clean keeper.new) → IfTakenUp (job_record job.now asked.now (F.answer function)) R.remaining reader.old H.log H.db (λ functions text.
+    ensures skips { IsTrue (K.are_clean keeper.new) → IfJobResumes (job_record job.now asked.now (F.answer function)) R.remaining reader.old H.log H.db (λ functions text.
         IfOk result (λ end. end.status ≡ 0 → HasSkipped (job_record job.now asked.now (F.answer function)) (Some text) end.skips)) }
 
     // It is 0 or 1.
@@ -148,12 +148,12 @@ pub fn run_slices<
     ensures clean { IsTrue (K.are_clean keeper.new) → IsTrue (K.are_clean keeper.old) }
 
     // Whatever a crash leaves of a slice's files holds that slice of the text so far again.
-    ensures left { IsTrue (K.are_clean keeper.new) → IfTakenUp (job_record job.now asked.now (F.answer function)) R.remaining reader.old H.log H.db (λ functions text.
+    ensures left { IsTrue (K.are_clean keeper.new) → IfJobResumes (job_record job.now asked.now (F.answer function)) R.remaining reader.old H.log H.db (λ functions text.
         (k : ℕ) (items : List (List ℕ)) (image : Image) → K.may_leave keeper.new k items image
         → K.may_leave keeper.old k items image ⊎ LeavesSlice (job_record job.now asked.now (F.answer function)) functions (Some text) k image) }
 
     // And where the bytes of the stream aren't known, the slice so far of the items that were read.
-    ensures crash { IsTrue (K.are_clean keeper.new) → (functions : Functions) → AreOf functions (F.answer function) (stamps_of job.now asked.now)
+    ensures crash { IsTrue (K.are_clean keeper.new) → (functions : Functions) → AreStampsOf functions (F.answer function) (stamps_of job.now asked.now)
         → (k : ℕ) (items : List (List ℕ)) (image : Image) → K.may_leave keeper.new k items image
         → K.may_leave keeper.old k items image ⊎ (HoldsSlice (job_record job.now asked.now (F.answer function)) functions k items (image_by H.log H.db k)
         → HoldsRun (KeepsOwn (job_record job.now asked.now (F.answer function)) functions k items) image) }
@@ -187,21 +187,21 @@ pub fn run_csv_job<
     from: R,
     to: W,
     keeper: &mut K,
-) -> Result<(JobEnd, W), Failure>
+) -> Result<(JobEnd, W), CsvJobError>
     // With status 0 what was written are the results of all records, whatever earlier runs the files are of.
-    ensures all { IsTrue (K.are_clean keeper.new) → (functions : Functions) → IsTakenUp (job_record job.now asked.now (F.answer function)) functions (R.remaining from) H.log H.db
+    ensures all { IsTrue (K.are_clean keeper.new) → (functions : Functions) → CanResumeJob (job_record job.now asked.now (F.answer function)) functions (R.remaining from) H.log H.db
         → IfOk result (λ r. r.0.status ≡ 0 → IsJobDone (job_record job.now asked.now (F.answer function)) (R.remaining from) (W.contents to) (W.contents r.1)) }
 
     // With any status those of the first slices.
-    ensures so_far { IsTrue (K.are_clean keeper.new) → (functions : Functions) → IsTakenUp (job_record job.now asked.now (F.answer function)) functions (R.remaining from) H.log H.db
+    ensures so_far { IsTrue (K.are_clean keeper.new) → (functions : Functions) → CanResumeJob (job_record job.now asked.now (F.answer function)) functions (R.remaining from) H.log H.db
         → IfOk result (λ r. IsDoneSoFar (job_record job.now asked.now (F.answer function)) (R.remaining from) (W.contents to) (W.contents r.1)) }
 
     // The status is by the job's rules, whatever was kept and however many runs it took.
-    ensures by_rules { IsTrue (K.are_clean keeper.new) → (functions : Functions) → IsTakenUp (job_record job.now asked.now (F.answer function)) functions (R.remaining from) H.log H.db
+    ensures by_rules { IsTrue (K.are_clean keeper.new) → (functions : Functions) → CanResumeJob (job_record job.now asked.now (F.answer function)) functions (R.remaining from) H.log H.db
         → IfOk result (λ r. IsByRules (job_record job.now asked.now (F.answer function)) (R.remaining from) r.0.status) }
 
     // With status 0 it counts the records that have a fault.
-    ensures skips { IsTrue (K.are_clean keeper.new) → (functions : Functions) → IsTakenUp (job_record job.now asked.now (F.answer function)) functions (R.remaining from) H.log H.db
+    ensures skips { IsTrue (K.are_clean keeper.new) → (functions : Functions) → CanResumeJob (job_record job.now asked.now (F.answer function)) functions (R.remaining from) H.log H.db
         → IfOk result (λ r. r.0.status ≡ 0 → HasSkipped (job_record job.now asked.now (F.answer function)) (R.remaining from) r.0.skips) }
 
     // It is 0 or 1.
@@ -211,12 +211,12 @@ pub fn run_csv_job<
     ensures clean { IsTrue (K.are_clean keeper.new) → IsTrue (K.are_clean keeper.old) }
 
     // Whatever a crash leaves of a slice's files holds that slice of the text so far again.
-    ensures left { IsTrue (K.are_clean keeper.new) → (functions : Functions) → IsTakenUp (job_record job.now asked.now (F.answer function)) functions (R.remaining from) H.log H.db
+    ensures left { IsTrue (K.are_clean keeper.new) → (functions : Functions) → CanResumeJob (job_record job.now asked.now (F.answer function)) functions (R.remaining from) H.log H.db
         → (k : ℕ) (items : List (List ℕ)) (image : Image) → K.may_leave keeper.new k items image
         → K.may_leave keeper.old k items image ⊎ LeavesSlice (job_record job.now asked.now (F.answer function)) functions (R.remaining from) k image }
 
     // And where the bytes of the stream aren't known, the slice so far of the items that were read.
-    ensures crash { IsTrue (K.are_clean keeper.new) → (functions : Functions) → AreOf functions (F.answer function) (stamps_of job.now asked.now)
+    ensures crash { IsTrue (K.are_clean keeper.new) → (functions : Functions) → AreStampsOf functions (F.answer function) (stamps_of job.now asked.now)
         → (k : ℕ) (items : List (List ℕ)) (image : Image) → K.may_leave keeper.new k items image
         → K.may_leave keeper.old k items image ⊎ (HoldsSlice (job_record job.now asked.now (F.answer function)) functions k items (image_by H.log H.db k)
         → HoldsRun (KeepsOwn (job_record job.now asked.now (F.answer function)) functions k items) image) }

@@ -7,7 +7,7 @@ ghost use Rattle.jb_rows.specs.Texts.{copied_by};
 ghost use Rattle.jb_csv_job.specs.Tasks.{given_by};
 
 use crate::asked::Task;
-use crate::failure::Failure;
+use crate::failure::CsvJobError;
 use jb_base::PackedList;
 use jb_rows::{RowsOptions, RowsReader, RowsWriter, copy_header};
 use std::alloc::Global;
@@ -15,16 +15,16 @@ use std::io::{Read, Write};
 
 /// Who takes the results of slices: those of a slice once it is whole, one slice after the other.
 pub trait Sink {
-    ghost use Rattle.jb_csv_job.specs.declared.failure.Failure.{Failure};
+    ghost use Rattle.jb_csv_job.specs.declared.failure.CsvJobError.{CsvJobError};
 
     /// Since it was `start` it took these results, packed, in this order.
     ghost took: { (start now : Self) → (results : List (List ℕ)) → Type 0 };
 
     /// Its own failures.
-    ghost may_refuse: { Failure → Type 0 };
+    ghost may_refuse: { CsvJobError → Type 0 };
 
     /// Takes these results after the others. After an error nothing is known of what it took.
-    fn take(&mut self, results: &PackedList) -> Result<(), Failure>
+    fn take(&mut self, results: &PackedList) -> Result<(), CsvJobError>
         ensures taken { OnOk result ((start : Self) (before : List (List ℕ)) → took start self.old before → took start self.new (before ++ results.now)) }
         ensures refused { IfErr result may_refuse };
 
@@ -56,7 +56,7 @@ impl<W: Write + Drop> CsvSink<W> {
         task: Task,
         options: &RowsOptions,
         reader: &RowsReader<R>,
-    ) -> Result<(), Failure>
+    ) -> Result<(), CsvJobError>
         ensures { OnOk result (IsBetweenLines options.now.delimiter self.old → IsBetweenLines options.now.delimiter self.new
             × Appends (lines_written W.contents self.old) (lines_written W.contents self.new)
             (csv_rows options.now.delimiter (given_by task (copied_by options.now.header (kept_header reader.now))))) }
@@ -71,7 +71,7 @@ impl<W: Write + Drop> CsvSink<W> {
     }
 
     /// The stream, after all that was written.
-    pub fn finish(self) -> Result<W, Failure>
+    pub fn finish(self) -> Result<W, CsvJobError>
         ensures { IfOk result (λ to. Keeps (lines_written W.contents self) (W.contents to)) }
     {
         let to = self.writer.finish()?;
@@ -80,13 +80,13 @@ impl<W: Write + Drop> CsvSink<W> {
 }
 
 impl<W: Write + Drop> Sink for CsvSink<W> {
-    ghost use Rattle.jb_csv_job.specs.Sinks.{HasTaken, IsOfRows, taken_none};
+    ghost use Rattle.jb_csv_job.specs.Sinks.{HasTaken, IsRowsError, taken_none};
 
     ghost took = { HasTaken W.contents };
 
-    ghost may_refuse = { IsOfRows };
+    ghost may_refuse = { IsRowsError };
 
-    fn take(&mut self, results: &PackedList) -> Result<(), Failure> {
+    fn take(&mut self, results: &PackedList) -> Result<(), CsvJobError> {
         self.writer.write_packed(results)?;
         Ok(())
     }

@@ -10,14 +10,14 @@ ghost use Rattle.jb_rows.specs.Texts.{copied_by};
 ghost use Rattle.jb_csv_job.specs.Reports.{line_at};
 ghost use Rattle.jb_csv_job.specs.Skipped.{record_bytes, skipped_header, skipped_row};
 
-use crate::failure::{Failure, OutputFault};
+use crate::failure::{CsvJobError, OutputFault};
 use crate::job::CsvJob;
 use crate::output::Output;
 use crate::report::line_at;
 use jb_answers::{FaultClass, name_of};
 use jb_base::PackedList;
 use jb_rows::{Header, RowBuilder, Rows, RowsError, RowsWriter};
-use jb_slice_run::{Failure as FailedPartition, Fault};
+use jb_slice_run::{Fault, PartitionFailure};
 use std::alloc::{AllocError, Global};
 use std::io::Write;
 
@@ -36,7 +36,7 @@ pub(crate) struct SliceRecords<'a> {
 fn listed_faults(
     alloc: Global,
     skips: &[Fault],
-    failures: &[FailedPartition],
+    failures: &[PartitionFailure],
 ) -> Result<Vec<Fault>, AllocError>
     ensures all { IfOk result (λ listed. IsPermutation (skips.now ++ map (λ one. one.fault) failures.now) listed.items) }
     ensures same { IfOk result (λ listed. failures.now ≡ [] → listed.items ≡ skips.now) }
@@ -161,7 +161,7 @@ impl SkipList {
         job: &CsvJob,
         header: &Rows,
         path: &str,
-    ) -> Result<SkipList, Failure> {
+    ) -> Result<SkipList, CsvJobError> {
         let alloc = host.alloc();
         let output = Output::open(host, Some(path))?;
         let mut list = SkipList {
@@ -182,8 +182,8 @@ impl SkipList {
         classes: &[FaultClass],
         of: &SliceRecords,
         skips: &[Fault],
-        failures: &[FailedPartition],
-    ) -> Result<(), Failure> {
+        failures: &[PartitionFailure],
+    ) -> Result<(), CsvJobError> {
         let faults = listed_faults(alloc, skips, failures)?;
         match write_skips(alloc, &mut self.writer, classes, of, &faults) {
             Ok(()) => Ok(()),
@@ -192,7 +192,7 @@ impl SkipList {
     }
 
     /// The list is whole: PATH.part becomes PATH.
-    pub(crate) fn close(self, host: &HostRuntime) -> Result<(), Failure> {
+    pub(crate) fn close(self, host: &HostRuntime) -> Result<(), CsvJobError> {
         match self.writer.finish() {
             Ok(output) => output.close(host, true),
             Err(error) => Err(write_failure(self.path, error)),
@@ -201,12 +201,12 @@ impl SkipList {
 }
 
 /// Why the list isn't written.
-fn write_failure(path: String, error: RowsError) -> Failure {
+fn write_failure(path: String, error: RowsError) -> CsvJobError {
     match error {
-        RowsError::Stream(error) => Failure::Output {
+        RowsError::Stream(error) => CsvJobError::Output {
             path,
             why: OutputFault::CannotWrite(error),
         },
-        error => Failure::Rows(error),
+        error => CsvJobError::Rows(error),
     }
 }

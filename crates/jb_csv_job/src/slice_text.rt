@@ -5,8 +5,8 @@ ghost use Rattle.jb_csv_job.specs.SliceTexts.{part_what, slice_name, store_name}
 
 use crate::path::SlicePath;
 use jb_records::RecordsStepError;
-use jb_slice_run::{DurableError, IdentityPart, SliceError, SliceRunError};
 use jb_slice_file::StoreError;
+use jb_slice_run::{DurableError, IdentityPart, SliceError, SliceRunError};
 use jb_step::StepError;
 use std::fmt;
 

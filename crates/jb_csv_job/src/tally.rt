@@ -4,7 +4,7 @@ ghost use Rattle.std.specs.Prelude.{◌≡◌, ◌⊎◌, false, true, IfOk};
 ghost use Rattle.jb_collect.specs.declared.calls.Status.TheVariants.{Completed, Failed};
 ghost use Rattle.jb_csv_job.specs.Loop.{IsCounted};
 
-use crate::failure::Failure;
+use crate::failure::CsvJobError;
 use crate::run::JobEnd;
 use jb_base::PackedList;
 use jb_collect::Status;
@@ -39,9 +39,9 @@ pub(crate) enum Seam {
 }
 
 /// How many results there are.
-fn results_in(shares: &[PackedList]) -> u64 {
+fn results_in(partition_results: &[PackedList]) -> u64 {
     let mut all: u64 = 0;
-    for share in shares {
+    for share in partition_results {
         all = all.saturating_add(share.len() as u64);
     }
     all
@@ -63,19 +63,19 @@ impl Tally {
     }
 
     /// Counts so many records that were read.
-    pub(crate) fn read(&mut self, records: u64) -> Result<(), Failure>
+    pub(crate) fn read(&mut self, records: u64) -> Result<(), CsvJobError>
         ensures skips { self.new.skips ≡ self.old.skips }
         ensures failed { self.new.is_failed ≡ self.old.is_failed }
     {
         let Some(records) = self.records.checked_add(records) else {
-            return Err(Failure::TooMany);
+            return Err(CsvJobError::TooMany);
         };
         self.records = records;
         Ok(())
     }
 
     /// Counts a slice that ended, of a job that skips at most so many records.
-    pub(crate) fn add(&mut self, end: &SliceEnd, limit: Option<u64>) -> Result<Seam, Failure>
+    pub(crate) fn add(&mut self, end: &SliceEnd, limit: Option<u64>) -> Result<Seam, CsvJobError>
         requires { (end.now.status ≡ Completed) ⊎ (end.now.status ≡ Failed) }
         ensures { IfOk result (IsCounted limit self.old self.new end.now) }
     {
@@ -86,7 +86,7 @@ impl Tally {
             return Ok(Seam::Keeps);
         }
         let Some(skips) = self.skips.checked_add(end.skips.len() as u64) else {
-            return Err(Failure::TooMany);
+            return Err(CsvJobError::TooMany);
         };
         self.skips = skips;
         if limit.is_some_and(|most| most < skips) {

@@ -7,7 +7,7 @@ ghost use Rattle.jb_csv_job.specs.Parsing.{IsAnswer};
 
 use crate::asked::{Asked, OwnOption, Request};
 use crate::command::{About, command};
-use crate::failure::{Failure, WordsFault};
+use crate::failure::{CsvJobError, WordsFault};
 use crate::host::Host;
 use crate::job::CsvJob;
 use crate::line::asked_in;
@@ -58,14 +58,14 @@ pub(crate) fn parse_words<'a>(
     own: Option<OwnOption<'a>>,
     default: u32,
     words: &'a [&'a str],
-) -> Result<Parsed, Failure>
+) -> Result<Parsed, CsvJobError>
     requires some { 1 ≤ default }
     requires few { default ≤ max_threads }
     ensures asks { IfOk result (IsAnswer about.now.name.now (option_map (λ o. o.name.now) own.entry) (map (λ w. w.now) words.now)) }
     ensures refused { IfErr result (AreRefused about.now.name.now (option_map (λ o. o.name.now) own.entry) (map (λ w. w.now) words.now)) }
 {
     if let Some(threads) = old_form(words) {
-        return Err(Failure::Words(WordsFault::OldForm(threads.to_string(alloc)?)));
+        return Err(CsvJobError::Words(WordsFault::OldForm(threads.to_string(alloc)?)));
     }
     let command = command(alloc, about, own)?;
     match command.try_get_matches_from(words) {
@@ -77,9 +77,9 @@ pub(crate) fn parse_words<'a>(
             }
         }
         Err(fault) => match fault.kind() {
-            ErrorKind::OutOfMemory => Err(Failure::Memory),
+            ErrorKind::OutOfMemory => Err(CsvJobError::Memory),
             ErrorKind::DisplayHelp | ErrorKind::DisplayVersion => Ok(Parsed::Text(fault)),
-            _ => Err(Failure::Words(WordsFault::Wrong(text_of(alloc, &fault)?))),
+            _ => Err(CsvJobError::Words(WordsFault::Wrong(text_of(alloc, &fault)?))),
         },
     }
 }
@@ -104,11 +104,11 @@ fn processors<T: Threads>(rt: &T) -> u32
 }
 
 /// The words after the program's name.
-fn words_of(alloc: Global, args: io::Result<Args>) -> Result<Vec<String>, Failure> {
+fn words_of(alloc: Global, args: io::Result<Args>) -> Result<Vec<String>, CsvJobError> {
     match args {
         Ok(args) => Ok(args.skip(1).collect(alloc)?),
-        Err(error) if error.kind() == io::ErrorKind::OutOfMemory => Err(Failure::Memory),
-        Err(_) => Err(Failure::Words(WordsFault::NoText)),
+        Err(error) if error.kind() == io::ErrorKind::OutOfMemory => Err(CsvJobError::Memory),
+        Err(_) => Err(CsvJobError::Words(WordsFault::NoText)),
     }
 }
 
@@ -157,7 +157,7 @@ fn asked_by<T: Threads + Host>(
     rt: &T,
     job: &CsvJob,
     own: Option<&OwnOption>,
-) -> Result<Parsed, Failure> {
+) -> Result<Parsed, CsvJobError> {
     let host = rt.host();
     let alloc = host.alloc();
     let args = words_of(alloc, env::args(host))?;
@@ -187,12 +187,12 @@ pub fn asked_of<T: Threads + Host>(
     rt: &T,
     job: &CsvJob,
     own: Option<&OwnOption>,
-) -> Result<Request, Failure> {
+) -> Result<Request, CsvJobError> {
     match asked_by(rt, job, own)? {
         Parsed::Job(asked) => Ok(Request::Job(asked)),
         Parsed::Text(text) => match text.print(rt.host()) {
             Ok(()) => Ok(Request::Said),
-            Err(error) => Err(Failure::Rows(RowsError::Stream(error))),
+            Err(error) => Err(CsvJobError::Rows(RowsError::Stream(error))),
         },
     }
 }

@@ -1,4 +1,4 @@
--- The document of `check` that a JSON tree stands for, or its first fault. Each line of a block below is a row of the
+-- The document of `check` that a JSON tree holds, or its first fault. Each line of a block below is a row of the
 -- document's table of fields, in the order in which they are checked. The form is this project's own choice.
 use Rattle.std.specs.Prelude.{◌≡◌, ℕ, ◌&&◌, nat_le, List, [], ◌∷◌, codes, bytes_eq, Option, Some, None, Ok, Err, if◌then◌else◌}
 use Rattle.serde_json.specs.Data.{Data}
@@ -64,7 +64,7 @@ check_document_at d = do
   certificate ← required certificate_at field.Certificate document
   Ok (record { counts = counts; threads = threads; rounds = rounds; certificate = certificate })
 
--- what code holds, as the claim that it stands for
+-- what code holds, as the claim that it means
 abbrev pub claim_of : PlanClaim → Claim
 claim_of c = record { counts = c.load.counts; threads = c.load.threads; rounds = plan_rounds c.plan; certificate = c.certificate }
 

@@ -49,7 +49,7 @@ claim_tree claim = object
 
 -- ---- the document of `run`
 
--- the name of a class, which stands at its number
+-- the name of a class, which is at its number in the list
 abbrev pub class_tree : (classes : List (List ℕ)) → ClassId → Data
 class_tree classes class = string (slice_index_or classes class.number [])
 

@@ -1,4 +1,4 @@
--- The document of `plan` that a JSON tree stands for, or its first fault. Each line of a block below is a row of the
+-- The document of `plan` that a JSON tree holds, or its first fault. Each line of a block below is a row of the
 -- document's table of fields, in the order in which they are checked. The form is this project's own choice.
 use Rattle.std.specs.Prelude.{◌≡◌, ℕ, List, [], ◌∷◌, sum, nat_le, Some, Ok, Err}
 use Rattle.serde_json.specs.Data.{Data}

@@ -1,5 +1,5 @@
--- The document of `restart` that a JSON tree stands for, or its first fault (own choice): a document of `run` that says
--- besides, under `resume`, what the run before left. The job is read whole before the data, and these before `resume`.
+-- The document of `restart` that a JSON tree holds, or its first fault (own choice). It is a document of `run` that also
+-- says, under `resume`, what the run before left. The whole job is read before the data, and these before `resume`.
 use Rattle.std.specs.Prelude.{◌≡◌, ℕ, List, [], ◌∷◌, ◌++◌, codes, bytes_eq, Option, Some, None, Result, Ok, Err, ◌⊎◌, if◌then◌else◌}
 use Rattle.std.specs.List.{list_any}
 use Rattle.serde_json.specs.Data.{Data}

@@ -1,5 +1,5 @@
--- The document of `run` that a JSON tree stands for, or its first fault (own choice): a job record, and the data of each
--- of its steps. The job is read whole before the data, and the data of a step before that of the next.
+-- The document of `run` that a JSON tree holds, or its first fault (own choice): a job record, and the data of each
+-- of its steps. The whole job is read before the data, and the data of a step before that of the next.
 use Rattle.std.specs.Prelude.{◌≡◌, ℕ, ◌==◌, List, [], ◌∷◌, length, Some, Ok, Err, if◌then◌else◌}
 use Rattle.serde_json.specs.Data.{Data}
 use Rattle.serde_json.specs.Events.{items_len}

@@ -1,4 +1,4 @@
--- The data of a step that a JSON tree stands for, or its first fault (own choice): the records to be read, a prefix for
+-- The data of a step that a JSON tree holds, or its first fault (own choice). The data are the records to be read, a prefix for
 -- each result, the beginning of the items that are filtered, and planned faults.
 use Rattle.std.specs.Prelude.{ℕ, List, [], ◌∷◌, length, Option, Some, None, Ok}
 use Rattle.serde_json.specs.Data.{Data}

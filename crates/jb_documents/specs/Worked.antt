@@ -1,4 +1,4 @@
--- Worked documents and what they stand for, written out apart from the code.
+-- Worked documents and what they mean, written out apart from the code.
 use Rattle.std.specs.Prelude.{◌≡◌, ℕ, List, [], ◌∷◌, ◌++◌, codes, Some}
 use Rattle.serde_json.specs.Written.{compact_text}
 use Rattle.jb_job.specs.JobTree.{job_tree}

@@ -1,4 +1,4 @@
-//! JSON trees that borrow their text: no string of its own for a text in them.
+//! JSON trees that borrow their text: they make no string for a text in them.
 
 ghost use Rattle.std.specs.Prelude.{◌≡◌, ◌⊎◌, None, Some, IfOk, IfErr};
 ghost use Rattle.json.specs.Value.{value_view};
@@ -48,7 +48,7 @@ pub fn borrowed_tree<'a>(
     }
 }
 
-/// The tree with texts of its own.
+/// The tree with its texts as own strings.
 pub fn owned(alloc: Global, tree: &Borrowed<'_>) -> Result<Value, JobError>
     requires { IsReadable (value_view tree.now) }
     ensures value { IfOk result (λ v. view v ≡ seen tree.now) }

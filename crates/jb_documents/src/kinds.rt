@@ -1,4 +1,4 @@
-//! The kinds of fields of a tree that borrows its text, as `jb_job::kinds` reads those of one with texts of its own.
+//! The kinds of fields of a tree that borrows its text, as `jb_job::kinds` reads those of a tree with own strings.
 
 ghost use Rattle.std.specs.Prelude.{◌≡◌, ◌≤◌, length, map, Result, IfOk};
 ghost use Rattle.std.specs.List.{list_all};

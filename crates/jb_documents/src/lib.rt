@@ -1,10 +1,10 @@
-//! The documents of the program: what the JSON text of each stands for, or its first fault.
+//! The documents of the program: what the JSON text of each means, or its first fault.
 //!
 //! - `run`: the document of `run`, a job record and the data of each of its steps.
 //! - `restart`: the document of `restart`, which says besides what the run before left.
 //! - `plan`: the document of `plan`, counts of chunks and a number of threads.
 //! - `check`: the document of `check`, a plan that someone made and its certificate.
-//! - `borrowed`: trees that borrow their text, so that no text of a document has a string of its own.
+//! - `borrowed`: trees that borrow their text, so that no string is made for a text of a document.
 //! - `ranges`, `numbers`: whether the numbers of such a tree are in range, and which they are.
 //! - `kinds`, `fields`: the fields of such a tree, and such trees taken apart by value.
 //!

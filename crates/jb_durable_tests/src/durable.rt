@@ -1,7 +1,7 @@
-//! A list of checkpoints that grows in lives, whatever call of the disk a life ends at.
+//! A list of checkpoints that grows over several process runs. Each run may end at any call of the disk.
 
 use crate::files::{added, begun, crashed, failing, new_files};
-use crate::lives::{Life, listed, lived};
+use crate::process_runs::{ProcessRun, listed, resume_and_run};
 use jb_slice_file::{ListEnd, StoreError};
 use sqlite::{Alter, Connection, Files};
 use sqlite_disk::Memory;
@@ -11,26 +11,26 @@ use std::sync::Wait;
 use std::test::*;
 use std::thread::Threads;
 
-/// What a life says that added all: each checkpoint has its number, as a text and as so many bytes.
+/// What a process run says that added all: each checkpoint has its number, as a text and as that many bytes.
 const WHOLE: &str = "true 0:[] 1:[1] 2:[2, 2] ";
 
 const CHECKPOINTS: u32 = 3;
 
-/// More than one life makes calls of one of its files.
+/// More calls of one file than one process run makes.
 const MOST_CALLS: u64 = 400;
 
-/// A life that adds what is missing, up to so many checkpoints. It says whether they are all there, and the checkpoints.
+/// A process run that adds what is missing, up to `most` checkpoints. It says whether they are all there, and the checkpoints.
 #[derive(Drop)]
 struct Counting {
     most: u32,
-    /// So many are known to be kept.
+    /// This many are known to be stored.
     kept: u32,
     /// An open had fewer.
     has_lost: bool,
 }
 
-/// A life up to so many checkpoints, of which so many were kept in an earlier one.
-fn life_behind(kept: u32, most: u32) -> Counting {
+/// A process run up to `most` checkpoints, of which an earlier one stored `kept`.
+fn process_run_behind(kept: u32, most: u32) -> Counting {
     Counting {
         most,
         kept,
@@ -38,7 +38,7 @@ fn life_behind(kept: u32, most: u32) -> Counting {
     }
 }
 
-impl Life for Counting {
+impl ProcessRun for Counting {
     fn live<R: Threads + Wait + Sync, S: Alter>(
         &mut self,
         _rt: &R,
@@ -51,18 +51,22 @@ impl Life for Counting {
     }
 }
 
-fn has_counted<S: Alter>(alloc: Global, conn: &mut Connection<S>, life: &mut Counting) -> bool {
+fn has_counted<S: Alter>(
+    alloc: Global,
+    conn: &mut Connection<S>,
+    process_run: &mut Counting,
+) -> bool {
     let Ok((found, mut end)) = begun(alloc, conn) else {
         return false;
     };
     let found = u32::try_from(found.len()).unwrap_or(CHECKPOINTS);
-    life.has_lost = life.has_lost || found < life.kept;
-    life.kept = found;
-    for number in found..life.most {
+    process_run.has_lost = process_run.has_lost || found < process_run.kept;
+    process_run.kept = found;
+    for number in found..process_run.most {
         if counted(alloc, conn, &mut end, number).is_err() {
             return false;
         }
-        life.kept = number + 1;
+        process_run.kept = number + 1;
     }
     true
 }
@@ -83,22 +87,22 @@ fn counted<S: Alter>(
     added(conn, end, saved.as_str(), &results)
 }
 
-/// Files in which a life before kept so many checkpoints.
+/// Files in which an earlier process run stored this many checkpoints.
 fn files_of<R: Threads + Wait + Sync>(rt: &R, alloc: Global, kept: u32) -> Files<Memory> {
     let files = new_files(alloc);
     if kept == 0 {
         return files;
     }
-    let (files, _) = lived(rt, alloc, files, &mut life_behind(0, kept));
+    let (files, _) = resume_and_run(rt, alloc, files, &mut process_run_behind(0, kept));
     crashed(files)
 }
 
-/// A life says that all are there, and which.
+/// A process run says that all are there, and which.
 fn assert_whole<R: Abort>(rt: &R, said: &str, kept: u32, calls: [u64; 2]) {
     assert_eq!(rt; said, WHOLE, "{kept} {calls:?}");
 }
 
-/// A life whose files fail from so many calls on, and two whose files don't: true where the first was whole.
+/// A process run whose files fail after this many calls, and two whose files don't fail. True if the first was whole.
 fn is_whole_at_once<R: Threads + Wait + Sync + Abort>(
     rt: &R,
     alloc: Global,
@@ -106,17 +110,17 @@ fn is_whole_at_once<R: Threads + Wait + Sync + Abort>(
     calls: [u64; 2],
 ) -> Result<bool, Fail> {
     let files = failing(files_of(rt, alloc, kept), calls);
-    let mut life = life_behind(kept, CHECKPOINTS);
-    let (files, first) = lived(rt, alloc, files, &mut life);
-    let (files, next) = lived(rt, alloc, crashed(files), &mut life);
-    let (_, last) = lived(rt, alloc, crashed(files), &mut life);
+    let mut process_run = process_run_behind(kept, CHECKPOINTS);
+    let (files, first) = resume_and_run(rt, alloc, files, &mut process_run);
+    let (files, next) = resume_and_run(rt, alloc, crashed(files), &mut process_run);
+    let (_, last) = resume_and_run(rt, alloc, crashed(files), &mut process_run);
     assert_whole(rt, next?.as_str(), kept, calls);
     assert_whole(rt, last?.as_str(), kept, calls);
-    assert!(rt; !life.has_lost, "{kept} {calls:?}");
+    assert!(rt; !process_run.has_lost, "{kept} {calls:?}");
     Ok(first?.as_str() == WHOLE)
 }
 
-/// Each number of calls in turn that the log passes, or the file, up to a life that they suffice for.
+/// The log, or the file, takes each number of calls in turn before it fails, until a process run has enough.
 fn assert_each_call<R: Threads + Wait + Sync + Abort>(
     rt: &R,
     alloc: Global,
@@ -136,7 +140,7 @@ fn assert_each_call<R: Threads + Wait + Sync + Abort>(
     Err(Fail::from("a life has more calls"))
 }
 
-/// Each life ends in a crash, and none of them lost anything that was kept.
+/// Each process run ends in a crash, and none of them loses anything that was stored.
 #[test]
 fn a_crash_at_each_call(rt: HostRuntime) -> Result<(), Fail> {
     let alloc = rt.alloc();
@@ -148,20 +152,21 @@ fn a_crash_at_each_call(rt: HostRuntime) -> Result<(), Fail> {
     Ok(())
 }
 
-/// `tests/refused-memory` runs it also with each request for memory refused in turn: a life that had none is followed by another,
-/// which goes on from what was kept, until two in a row had enough. Where a request of the test's own is refused, the test ends with that error.
+/// `tests/refused-memory` runs it also with each request for memory refused in turn. After a process run that was out of memory another
+/// one resumes after the stored checkpoints, until two in a row had enough. If a request of the test itself is refused, the test ends with that
+/// error.
 #[test]
 fn memory_refused(rt: HostRuntime) -> Result<(), Fail> {
     let alloc = rt.alloc();
-    let mut life = life_behind(0, CHECKPOINTS);
+    let mut process_run = process_run_behind(0, CHECKPOINTS);
     let mut files = new_files(alloc);
     let mut was_whole = false;
     for _ in 0..4 {
-        let (left, said) = lived(&rt, alloc, files, &mut life);
+        let (left, said) = resume_and_run(&rt, alloc, files, &mut process_run);
         files = crashed(left);
         let is_whole = said.is_ok_and(|said| said.as_str() == WHOLE);
         if is_whole && was_whole {
-            assert!(rt; !life.has_lost);
+            assert!(rt; !process_run.has_lost);
             return Ok(());
         }
         was_whole = is_whole;

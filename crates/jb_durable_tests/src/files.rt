@@ -13,7 +13,7 @@ pub(crate) fn new_files(alloc: Global) -> Files<Memory> {
     }
 }
 
-/// The same, which fail from one call on: the log's from the first number of calls on, the file's from the second. A crash ends that.
+/// The same files, which fail after some calls: the log after the first number of calls, the file after the second. A crash ends that.
 pub(crate) fn failing<D: Crash>(files: Files<D>, calls: [u64; 2]) -> Files<Fuse<D>> {
     Files {
         log: Fuse::new(files.log, calls[0]),
@@ -28,7 +28,7 @@ pub(crate) fn crashed<D: Crash>(mut files: Files<D>) -> Files<D> {
     files
 }
 
-/// The files come back where they can't be opened, or one of them may not be used.
+/// The files come back if they can't be opened, or if one of them may not be used.
 pub(crate) fn opened<D: Disk + Drop>(
     alloc: Global,
     files: Files<D>,
@@ -50,7 +50,7 @@ pub(crate) fn begun<S: Alter>(
     begin(alloc, conn)
 }
 
-/// A checkpoint more, at the end of a list.
+/// Adds a checkpoint at the end of a list.
 pub(crate) fn added<S: Alter>(
     conn: &mut Connection<S>,
     end: &mut ListEnd,

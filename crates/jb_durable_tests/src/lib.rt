@@ -1,7 +1,8 @@
 //! Tests of the public calls of the libraries that keep checkpoints in a file: `jb_slice_file` and `jb_slice_run`.
 //!
-//! They stand apart from the libraries, so that each of those is proved once. `store` and `durable` have the tests of the first one, of files of
-//! many kinds and of lists that grow in lives, over files in memory (`files`) and in runs that end in a crash (`lives`), and `slice_bytes` those of the second.
+//! They are apart from the libraries, so that each library is proved once. `store` and `durable` test the first one: files of many kinds, and lists
+//! that grow over several process runs. They use files in memory (`files`) and runs that end in a crash (`process_runs`). `slice_bytes` tests the
+//! second.
 #![tactic(auto)]
 
 #[cfg(test)]
@@ -9,7 +10,7 @@ mod durable;
 #[cfg(test)]
 mod files;
 #[cfg(test)]
-mod lives;
+mod process_runs;
 #[cfg(test)]
 mod slice_bytes;
 #[cfg(test)]

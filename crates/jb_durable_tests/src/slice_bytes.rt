@@ -3,12 +3,12 @@
 use jb_base::{ClassId, PackedList};
 use jb_slice_file::Checkpoint;
 use jb_slice_run::{
-    Fault, HeaderLists, IdentityPart, PartitionNews, SliceError, SliceHeader, SliceLimits,
+    Fault, HeaderLists, IdentityPart, PartitionOutput, SliceError, SliceHeader, SliceLimits,
     header_checkpoint, interval_checkpoint, read_slice, refuse_lowered,
 };
 use std::alloc::{AllocError, AllocFailed, Global};
 
-/// What a test answers where something is refused that it counts on.
+/// The error of a test if something that it relies on is refused.
 #[derive(Debug, Drop)]
 pub struct Fail;
 
@@ -30,7 +30,7 @@ impl From<SliceError> for Fail {
     }
 }
 
-/// Limits of so many skips in a partition.
+/// Limits with this many skips in a partition.
 fn limits_of(skips: u64) -> SliceLimits {
     SliceLimits {
         skips: Some(skips),
@@ -59,19 +59,19 @@ fn header_of<'a>(name: &'a str, stamp: &'a str, classes: &'a [&'a str]) -> Slice
 }
 
 /// A partition with one result, and this skipped fault and stop.
-fn news_of(
+fn new_output_of(
     alloc: Global,
     text: &[u8],
     skip: Option<Fault>,
     stop: Option<Fault>,
-) -> Result<PartitionNews, Fail> {
+) -> Result<PartitionOutput, Fail> {
     let mut results = PackedList::new(alloc);
     results.push(text)?;
     let mut skips = Vec::new(alloc);
     if let Some(fault) = skip {
         skips.push(fault)?;
     }
-    Ok(PartitionNews {
+    Ok(PartitionOutput {
         results,
         skips,
         stop,
@@ -87,8 +87,8 @@ fn interval_of(
     stop: Option<Fault>,
 ) -> Result<Checkpoint, Fail> {
     let mut partitions = Vec::new(alloc);
-    partitions.push(news_of(alloc, text, skip, None)?)?;
-    partitions.push(news_of(alloc, b"", None, stop)?)?;
+    partitions.push(new_output_of(alloc, text, skip, None)?)?;
+    partitions.push(new_output_of(alloc, b"", None, stop)?)?;
     let saved = format!(in alloc; "rows")?;
     Ok(interval_checkpoint(alloc, limits_of(skips), saved, partitions)?)
 }

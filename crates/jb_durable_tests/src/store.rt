@@ -1,7 +1,7 @@
-//! Files of many kinds: which list each one has, or which refusal it gets, and what an append makes of it.
+//! Files of many kinds: which list or refusal each one has, and what an append makes of it.
 
 use crate::files::{added, begun, crashed, new_files, text_of};
-use crate::lives::{Life, Listing, ended, listed, lived, named};
+use crate::process_runs::{Listing, ProcessRun, ended, listed, named, resume_and_run};
 use jb_slice_file::open_files;
 use sqlite::{Alter, Connection, Error, Files, Options};
 use sqlite_disk::Memory;
@@ -10,11 +10,11 @@ use std::sync::Wait;
 use std::test::*;
 use std::thread::Threads;
 
-/// A database is made by a statement.
+/// Makes a database by a statement.
 #[derive(Drop)]
 struct Makes(&'static str);
 
-impl Life for Makes {
+impl ProcessRun for Makes {
     fn live<R: Threads + Wait + Sync, S: Alter>(
         &mut self,
         _rt: &R,
@@ -26,11 +26,11 @@ impl Life for Makes {
     }
 }
 
-/// The list is taken, and a checkpoint is added at its end, and once more at the end that it had.
+/// Takes the list and adds a checkpoint at its end, and once more at the end that it had before.
 #[derive(Drop)]
 struct Adds;
 
-impl Life for Adds {
+impl ProcessRun for Adds {
     fn live<R: Threads + Wait + Sync, S: Alter>(
         &mut self,
         _rt: &R,
@@ -51,11 +51,11 @@ impl Life for Adds {
     }
 }
 
-/// A checkpoint is added.
+/// Adds a checkpoint.
 #[derive(Drop)]
 struct AddsLast;
 
-impl Life for AddsLast {
+impl ProcessRun for AddsLast {
     fn live<R: Threads + Wait + Sync, S: Alter>(
         &mut self,
         _rt: &R,
@@ -95,7 +95,7 @@ const ROWS: [Row; 17] = [
         is_list: true,
         says: "| Ok(()) Err(Taken) | new:[7, 8] | Ok(()) new:[7, 8] last:[] | new:[7, 8] last:[] ",
     },
-    // The text of the definition is its maker's own, and so is the order in which the rows came. Python has worked out the links.
+    // The text of the definition and the order of the rows are another program's. Python has computed the links.
     Row {
         made_by: "create table checkpoint(number integer primary key,saved text not null,results blob not null,link blob not null) strict; insert into checkpoint values (2, 'b', x'', x'b41a77651e96a87366d76069caa94702bca6194da8231839f7de26772cca5bd2'), (1, 'a', x'00ff', x'd99e16749a85a31b25b6346a4b078892d40788eda76c7555fd7d7d8c79aecfe1')",
         is_list: true,
@@ -187,13 +187,13 @@ fn is_same(files: &Files<Memory>, bytes: &[Vec<u8>; 2]) -> bool {
     files.log.bytes() == log.as_slice() && files.db.bytes() == db.as_slice()
 }
 
-/// What an append says after which the machine stops, the list that the next open finds, and what that connection shows.
+/// An append, after which the machine stops: what it says, the list that the next open finds, and what that connection shows.
 fn crash_says<R: Threads + Wait + Sync>(
     rt: &R,
     alloc: Global,
     files: Files<Memory>,
 ) -> Result<String, Fail> {
-    let (files, told) = lived(rt, alloc, files, &mut AddsLast);
+    let (files, told) = resume_and_run(rt, alloc, files, &mut AddsLast);
     let files = crashed(files);
     if !files.may_be_used() {
         return Err(Fail::from("files that may be used"));
@@ -213,19 +213,19 @@ fn refusal_says<R: Threads + Wait + Sync>(
     files: Files<Memory>,
 ) -> Result<String, Fail> {
     let before = bytes_of(alloc, &files)?;
-    let (files, told) = lived(rt, alloc, files, &mut Adds);
+    let (files, told) = resume_and_run(rt, alloc, files, &mut Adds);
     let is_same = is_same(&files, &before);
     let told = told?;
     Ok(format!(in alloc; "{told}, untouched: {is_same}")?)
 }
 
-/// What is said of a list, and of an append with a crash right behind it.
+/// What is said of a list, and of an append with a crash right after it.
 fn list_says<R: Threads + Wait + Sync>(
     rt: &R,
     alloc: Global,
     files: Files<Memory>,
 ) -> Result<String, Fail> {
-    let (files, told) = lived(rt, alloc, files, &mut Adds);
+    let (files, told) = resume_and_run(rt, alloc, files, &mut Adds);
     let more = crash_says(rt, alloc, files)?;
     let told = told?;
     Ok(format!(in alloc; "{told}{more}")?)
@@ -233,7 +233,7 @@ fn list_says<R: Threads + Wait + Sync>(
 
 /// What is said of a database.
 fn says<R: Threads + Wait + Sync>(rt: &R, alloc: Global, row: &Row) -> Result<String, Fail> {
-    let (files, made) = lived(rt, alloc, new_files(alloc), &mut Makes(row.made_by));
+    let (files, made) = resume_and_run(rt, alloc, new_files(alloc), &mut Makes(row.made_by));
     let _made = made?;
     if row.is_list {
         list_says(rt, alloc, crashed(files))

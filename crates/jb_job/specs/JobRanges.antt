@@ -1,4 +1,4 @@
--- The ranges of a job record: what every Job of a tree keeps.
+-- The ranges of a job record: what holds of every Job of a tree.
 use Rattle.std.specs.Prelude.{ℕ, ◌≡◌, ◌≤◌, ◌<◌, ◌-◌, ◌^◌, ◌⊎◌, false, List, length, All, IfSome, bytes_eq}
 use Rattle.std.specs.List.{IsDistinct}
 use Rattle.jb_job.specs.declared.job.Job.{Job}
@@ -20,7 +20,7 @@ pub record AreClasses (classes : List (List ℕ)) : Type 0 where
   pub named : All IsClassName classes
   pub once : IsDistinct bytes_eq classes
 
--- a set of declared classes alone
+-- a set of only declared classes
 abbrev pub AreDeclared : List (List ℕ) → (set : ℕ) → Type 0
 AreDeclared classes set = set < 2 ^ length classes
 

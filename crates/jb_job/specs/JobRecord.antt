@@ -1,5 +1,5 @@
--- The Job that a JSON tree stands for, or its first fault: for each object of the record one table, whose first line
--- lists its keys and whose next lines are its fields, in the order in which their faults count.
+-- The Job that a JSON tree describes, or its first fault. Each object of the record has one table. The table's first line
+-- lists the object's keys. Its next lines are the fields, in the order in which their faults count.
 --
 -- The keys are those of the job specification language of Jakarta Batch 2.1 ("Chunk", "Skipping Exceptions", "Retrying
 -- Exceptions", "Partition Plan"). Own choices: the form (JSON, and the order of faults), the keys `exception-classes`,
@@ -21,7 +21,7 @@ use Rattle.jb_job.specs.Records.{SpecRecord, StepRecord}
 
 -- ---- exception-classes: the fault classes that the job declares, each once, in first-seen order (own)
 
--- the text that stands for every class where classes are included, and is no class's name
+-- the text that means every class where classes are included; it is no class's name
 abbrev pub every_class : List ℕ
 every_class = codes "*"
 
@@ -38,7 +38,7 @@ with_name names name = if list_any (bytes_eq name) names then names else names +
 abbrev pub distinct : List (List ℕ) → List (List ℕ)
 distinct = fold with_name []
 
--- The limit counts the texts, before repeated ones drop.
+-- The limit counts the texts, before repeated ones are dropped.
 unfoldable pub classes_at : Field → Data → Read (List (List ℕ))
 classes_at f d = do
   items ← list_at 0 max_classes f d
@@ -51,7 +51,7 @@ abbrev pub declared : Option ℕ → Read ℕ
 declared None = Err unknown_class
 declared (Some number) = Ok (2 ^ number)
 
--- The bit of a declared name; all 64 bits for `*`, where it may stand. Any other text is an unknown class.
+-- The bit of a declared name; all 64 bits for `*`, if it is allowed here. Any other text is an unknown class.
 unfoldable pub bits_at : Bool → List (List ℕ) → Field → Data → Read ℕ
 bits_at star classes f d = do
   name ← shaped f (as_str d)
@@ -74,7 +74,7 @@ set_at classes f d = do
 
 -- ---- ranges: pairs [lo, hi] of record numbers (own)
 
--- The form of a pair comes before the range of its numbers.
+-- The form of a pair is checked before the range of its numbers.
 unfoldable pub range_pair_at : Data → Read Range
 range_pair_at d = do
   pair ← pair_at field.Ranges d
@@ -90,7 +90,7 @@ ranges_at f d = do
 
 -- ---- plan and partition (Jakarta Batch 2.1, "Partition Plan"; 0 threads stand for the number of partitions)
 
--- Ranges aren't given beside a number of partitions.
+-- A plan can't have both ranges and a number of partitions.
 unfoldable pub own_ranges_at : Bool → Field → Data → Read (Option (List Range))
 own_ranges_at counted f d = if counted then Err (wrong_shape f) else ranges_at f d
 

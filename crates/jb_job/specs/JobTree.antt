@@ -1,5 +1,5 @@
--- The JSON tree of a Job, with the keys of each object in byte order (own choice). A step says all that may be said of it,
--- but for a skip limit that it hasn't.
+-- The JSON tree of a Job, with the keys of each object in byte order (own choice). A step has every key that it may have,
+-- except for a skip limit that isn't set.
 use Rattle.std.specs.Prelude.{ℕ, ◌==◌, ◌-◌, ◌^◌, nat_lt, List, [], ◌∷◌, length, map, filter, Option, Some, None, if◌then◌else◌}
 use Rattle.std.specs.Int.{bit_at}
 use Rattle.std.specs.List.{enumerate_from}
@@ -61,7 +61,7 @@ chunk_tree classes item_count r = object
 abbrev pub range_tree : Range → Data
 range_tree r = list_tree (number_tree r.lo ∷ number_tree r.hi ∷ [])
 
--- the ranges, or the number of partitions where there are none
+-- the ranges, or the number of partitions if there are no ranges
 abbrev pub with_partitions : (partitions : ℕ) → Option (List Range) → Members → Members
 with_partitions partitions None others = with_field field.Partitions (number_tree partitions) others
 with_partitions partitions (Some ranges) others = with_field field.Ranges (list_tree (map range_tree ranges)) others

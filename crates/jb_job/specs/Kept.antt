@@ -1,4 +1,4 @@
--- What the types of a job keep.
+-- The invariants of the types of a job.
 use Rattle.std.specs.Prelude.{◌≡◌, ◌≤◌, List, length, map, All, IfSome, bytes_eq}
 use Rattle.std.specs.List.{IsDistinct}
 use Rattle.jb_base.specs.Limits.{max_partitions_asked, max_threads_asked, max_ranges, max_steps}
@@ -14,7 +14,7 @@ pub record IsSpec (s : SpecRecord) : Type 0 where
   pub numbered : IfSome s.ranges (All IsNumbered)
   pub ranges_alone : IfSome s.ranges (λ ranges. s.partitions ≡ 1)
 
--- no two steps have one id
+-- no two steps have the same id
 abbrev pub HaveOwnIds : List StepRecord → Type 0
 HaveOwnIds steps = IsDistinct bytes_eq (map (λ s. s.id) steps)
 

@@ -12,10 +12,10 @@ use Rattle.jb_job.specs.JobTree.{job_tree}
 abbrev pub JobsKeepRanges : Type 0
 JobsKeepRanges = (d : Data) (j : Job) → job_at d ≡ Ok j → IsJob j
 
--- each job within the ranges has a tree that is read as it
+-- each job within the ranges has a tree that is read as that job
 abbrev pub JobsHaveTrees : Type 0
 JobsHaveTrees = (j : Job) → IsJob j → job_at (job_tree j) ≡ Ok j
 
--- and that tree is what its own text has, whatever bytes the names have
+-- and reading the compact text of that tree gives the tree, whatever bytes the names have
 abbrev pub TextsAreRead : Type 0
 TextsAreRead = (j : Job) → IsJob j → read (compact_text (job_tree j)) ≡ Some (job_tree j)

@@ -1,9 +1,9 @@
 -- Reading a JSON tree by tables of fields (own choice): what a field of each kind gives, or the first fault.
 --
--- A kind is a function from a field and a tree to a value or a fault, so a fault names its field, and a range stands in
--- the table. A field that is missing where it is required, or of the wrong kind, is of the wrong shape; then a value may
--- be out of its range, and a list may have too many members. `null` is of the wrong kind for every field. Of a key that
--- the text repeats, the tree has the last value.
+-- A kind is a function from a field and a tree to a value or a fault. So a fault names its field, and a range is part of
+-- the table. A field is of the wrong shape if it is missing and required, or of the wrong kind. After that, a value may
+-- be out of its range, and a list may have too many members. `null` is of the wrong kind for every field. If the text
+-- repeats a key, the tree has the last value.
 use Rattle.std.specs.Prelude.{◌≡◌, ℕ, ◌&&◌, Bool, List, [], ◌∷◌, ◌++◌, length, Option, Some, None, option_and_then, Result, Ok, Err, IsErrAnd, ◌⊎◌, nat_le, bytes_eq, if◌then◌else◌}
 use Rattle.std.specs.List.{list_all, list_any}
 use Rattle.std.specs.Str.{is_utf8}
@@ -129,7 +129,7 @@ abbrev pub each_after : {A : Type 0} → (List A → Data → Read A) → List A
 each_after kind done no_items = Ok done
 each_after kind done (item d ds) = kind done d >>= λ one. each_after kind (done ++ one ∷ []) ds
 
--- All members in order, each by those before it. The first fault ends them.
+-- All members in order. Each is read with those before it, and the first fault ends the reading.
 abbrev pub each_at : {A : Type 0} → (List A → Data → Read A) → Items → Read (List A)
 each_at kind = each_after kind []
 
@@ -151,7 +151,7 @@ optional kind absent f d = or_else (kind f) absent (get (name_of f) d)
 abbrev pub tree_of : List ℕ → Option Data
 tree_of bytes = if is_utf8 bytes then read bytes else None
 
--- What reading a text gives, seen by view: NotJson exactly where it has no tree, unless memory ran out.
+-- What reading a text gives, seen by view: NotJson exactly if the text has no tree, unless memory ran out.
 abbrev pub GivesOfText : {X Y : Type 0} → (X → Y) → (Data → Read Y) → Result X JobError → Option Data → Type 0
 GivesOfText view kind result None = IsErrAnd result (λ e. (e ≡ NotJson) ⊎ (e ≡ Memory))
 GivesOfText view kind result (Some d) = Gives view result (kind d)

@@ -18,7 +18,7 @@ use serde_json::Value;
 use std::alloc::Global;
 use std::marker::Brand;
 
-/// The text that stands for every class in an include list.
+/// The text that means every class in an include list.
 pub const EVERY_CLASS: &str = "*";
 
 #[tactic(auto, unfolding(crate::specs::JobRecord::class_name_at))]

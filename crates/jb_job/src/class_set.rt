@@ -15,7 +15,7 @@ use serde_json::Value;
 use std::alloc::Global;
 use std::marker::Brand;
 
-/// The bit of a name, or every bit for `*` where it may stand.
+/// The bit of a name, or every bit for `*` if it is allowed here.
 #[tactic(auto, unfolding(crate::specs::JobRecord::bits_at))]
 fn class_bits(star: bool, classes: &Classes, field: Field, tree: &Value) -> Result<u64, JobError>
     ensures { GivesExactly (λ n. n) result (bits_at star classes.now field (view tree.now)) }
@@ -65,7 +65,7 @@ fn class_set(alloc: Global, classes: &Classes, field: Field, tree: &Value) -> Re
     Ok(included & !excluded)
 }
 
-/// A field with a set of classes, which is empty where the field is absent.
+/// A field with a set of classes, which is empty if the field is absent.
 #[tactic(auto, unfolding(crate::specs::Reading::optional))]
 pub fn class_field(
     alloc: Global,

@@ -36,7 +36,7 @@ impl Classes {
         Classes { names }
     }
 
-    /// The class of a name, whose number is its place, or none where the name isn't declared.
+    /// The class of a name, whose number is its place, or None if the name isn't declared.
     pub fn class(&self, name: &str) -> Option<ClassId>
         ensures { option_map (λ class. class.number) result ≡ position (bytes_eq name.now) self.now }
     {

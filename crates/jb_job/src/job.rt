@@ -32,8 +32,8 @@ impl Spec {
     ghost use Rattle.jb_base.specs.Range.{IsNumbered};
     ghost use Rattle.jb_base.specs.Limits.{max_partitions_asked, max_ranges, max_threads_asked};
 
-    /// The values of 1 to 4,096 partitions and at most 4,096 threads; or of at most 4,096 ranges of records numbered to
-    /// 10,000,000, which stand for one partition each, beside the number 1.
+    /// What a step asks for: 1 to 4,096 partitions and at most 4,096 threads. In place of a number of partitions it may
+    /// have at most 4,096 ranges of records numbered to 10,000,000, one for each partition. `partitions` is 1 then.
     pub fn new(partitions: u32, threads: u32, replace: bool, ranges: Option<Ranges>) -> Spec
         requires some { 1 ≤ partitions }
         requires few { partitions ≤ max_partitions_asked }
@@ -51,7 +51,7 @@ impl Spec {
         }
     }
 
-    /// The number of even partitions, where there are no ranges: 1 to 4,096.
+    /// The number of even partitions, if there are no ranges: 1 to 4,096.
     pub fn partitions(&self) -> u32
         ensures value { result ≡ self.now.partitions }
         ensures least { 1 ≤ result }
@@ -60,7 +60,7 @@ impl Spec {
         self.partitions
     }
 
-    /// The number of threads asked for, at most 4,096. At 0 it is the number of partitions.
+    /// The number of threads asked for, at most 4,096. 0 asks for as many as there are partitions.
     pub fn threads(&self) -> u32
         ensures value { result ≡ self.now.threads }
         ensures most { result ≤ max_threads_asked }
@@ -68,14 +68,14 @@ impl Spec {
         self.threads
     }
 
-    /// Whether a restart begins anew, as Jakarta's `override` says.
+    /// Whether a restart begins from the start, as Jakarta's `override` says.
     pub fn replace(&self) -> bool
         ensures { result ≡ self.now.replace }
     {
         self.replace
     }
 
-    /// The partitions' ranges, where the plan gives them: at most 4,096, of records numbered to 10,000,000.
+    /// The partitions' ranges, if the plan gives them: at most 4,096, of records numbered to 10,000,000.
     pub fn ranges(&self) -> Option<&Ranges>
         ensures value { option_map (λ r. r.now) result ≡ self.now.ranges }
         ensures few { IfSome self.now.ranges (λ ranges. length ranges ≤ max_ranges) }
@@ -121,7 +121,7 @@ impl Step {
     ghost use Rattle.jb_base.specs.Name.{IsName};
     ghost use Rattle.jb_base.specs.Limits.{max_item_count};
 
-    /// A step of an item count of 1 to 1,000,000.
+    /// A step with an item count of 1 to 1,000,000.
     pub fn new(id: Name, item_count: u64, rules: Rules, spec: Spec) -> Step
         requires some { 1 ≤ item_count }
         requires few { item_count ≤ max_item_count }
@@ -166,7 +166,7 @@ impl Step {
         &self.spec
     }
 
-    /// The name and what is asked of the partitions, by value.
+    /// The name and what the step asks of its partitions, by value.
     pub fn into_parts(self) -> (Name, Spec)
         ensures id { result.0 ≡ self.id }
         ensures spec { result.1 ≡ self.spec }
@@ -183,14 +183,14 @@ pub struct Job {
     pub id: Name,
     /// The fault classes that the job declares.
     pub classes: Classes,
-    /// The steps, of which no two have one id.
+    /// The steps. No two have the same id.
     pub steps: Steps,
 }
 
 impl Job {
     ghost use Rattle.std.specs.Prelude.{◌≡◌, position, bytes_eq, option_map};
 
-    /// The fault class of a name, or none where the job declares no such class.
+    /// The fault class of a name, or None if the job declares no such class.
     pub fn class(&self, name: &str) -> Option<ClassId>
         ensures { option_map (λ class. class.number) result ≡ position (bytes_eq name.now) self.now.classes }
     {

@@ -137,7 +137,7 @@ pub fn whole(field: Field, tree: &Value) -> Result<u64, JobError>
     tree.as_u64().ok_or(JobError::WrongShape(field))
 }
 
-/// What the members of a list are read as. It stands in proofs alone: a call of `each` names `Brand`, and its proof
+/// What the members of a list are read as. It is used in proofs alone: a call of `each` names `Brand`, and its proof
 /// picks what `each` promises.
 pub trait Member<T> {
     /// What contracts see of a member.
@@ -157,8 +157,8 @@ impl<T> Member<T> for Brand {
     ghost kind = { λ _ _. Ok tt };
 }
 
-/// All members of a list in order, each read by those before it. The first fault ends them. Only the list's growth
-/// takes memory.
+/// All members of a list in order, each read with those before it. The first fault ends the reading. Besides `read`, only
+/// the list's growth takes memory.
 pub fn each<M: Member<T>, T: Drop, F: Fn(&[T], &Value) -> Result<T, JobError>>(
     alloc: Global,
     items: &Vec<Value>,
@@ -177,7 +177,7 @@ pub fn each<M: Member<T>, T: Drop, F: Fn(&[T], &Value) -> Result<T, JobError>>(
     Ok(done)
 }
 
-/// As `each`, of a list whose members may be taken apart.
+/// As `each`, but `read` gets each member by value.
 pub fn each_by_value<M: Member<T>, T: Drop, F: Fn(&[T], Value) -> Result<T, JobError>>(
     alloc: Global,
     items: Vec<Value>,

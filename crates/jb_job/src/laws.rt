@@ -3,7 +3,7 @@
 ghost use Rattle.jb_job.specs.Laws.{JobsHaveTrees, JobsKeepRanges, TextsAreRead};
 ghost use Rattle.jb_job.specs.Worked.{JobRows};
 
-/// A job that is read keeps the ranges of the record, whatever tree it is read of.
+/// A job that is read keeps the ranges of the record, whatever tree it is read from.
 pub fn jobs_keep_ranges()
     ensures { JobsKeepRanges }
 {}
@@ -13,7 +13,7 @@ pub fn jobs_have_trees()
     ensures { JobsHaveTrees }
 {}
 
-/// The compact text of that tree has the tree.
+/// Reading the compact text of that tree gives the tree.
 pub fn jobs_have_texts()
     ensures { TextsAreRead }
 {}

@@ -1,4 +1,4 @@
-//! The job record: its types, and the Job that a JSON tree stands for.
+//! The job record: its types, and the Job that a JSON tree describes.
 //!
 //! A job names its fault classes and its chunk steps. Its keys are those of Jakarta Batch 2.1's job
 //! specification language; that it is JSON, and the keys `exception-classes`, `ranges` and `override`,

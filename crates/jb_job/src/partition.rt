@@ -57,7 +57,7 @@ fn own_ranges(alloc: Global, counted: bool, tree: &Value) -> Result<Ranges, JobE
     ranges(alloc, list(0, MAX_RANGES, Field::Ranges, tree)?)
 }
 
-/// The number of even partitions, 1 where none is given.
+/// The number of even partitions, 1 if none is given.
 #[tactic(auto, unfolding(crate::specs::Reading::optional))]
 fn partitions(plan: &Value) -> Result<u32, JobError>
     ensures exact { GivesExactly (λ n. n) result (optional (number_at 1 max_partitions_asked) 1 field.Partitions (view plan.now)) }
@@ -74,7 +74,7 @@ fn partitions(plan: &Value) -> Result<u32, JobError>
     }
 }
 
-/// The number of threads asked for, 0 where none is given.
+/// The number of threads asked for, 0 if none is given.
 #[tactic(auto, unfolding(crate::specs::Reading::optional))]
 fn threads(plan: &Value) -> Result<u32, JobError>
     ensures exact { GivesExactly (λ n. n) result (optional (number_at 0 max_threads_asked) 0 field.Threads (view plan.now)) }
@@ -89,7 +89,7 @@ fn threads(plan: &Value) -> Result<u32, JobError>
     }
 }
 
-/// Whether a restart begins anew, which it doesn't where the plan says nothing of it.
+/// Whether a restart begins from the start; false if the plan doesn't say.
 #[tactic(auto, unfolding(crate::specs::Reading::optional))]
 fn replace(plan: &Value) -> Result<bool, JobError>
     ensures { GivesExactly (λ b. b) result (optional flag_at false field.Override (view plan.now)) }
@@ -100,7 +100,7 @@ fn replace(plan: &Value) -> Result<bool, JobError>
     }
 }
 
-/// The ranges, where there are any.
+/// The ranges, if there are any.
 #[tactic(auto, unfolding(crate::specs::Reading::optional))]
 fn given_ranges(alloc: Global, counted: bool, plan: &Value) -> Result<Option<Ranges>, JobError>
     ensures exact { Gives (λ r. r) result (optional (own_ranges_at counted) None field.Ranges (view plan.now)) }

@@ -38,7 +38,7 @@ fn new_id<'a>(earlier: &[Step], tree: &'a Value) -> Result<&'a str, JobError>
     }
 }
 
-/// What a step asks of its partitions: one, where it says nothing of them.
+/// What a step asks of its partitions: one partition, if it says nothing of them.
 #[tactic(auto, unfolding(crate::specs::Reading::optional))]
 fn step_spec(alloc: Global, step: &Value) -> Result<Spec, JobError>
     ensures { Gives (λ s. s) result (optional partition_at one_partition field.Partition (view step.now)) }
@@ -85,7 +85,7 @@ fn job_id(job: &Value) -> Result<&str, JobError>
     text(1, MAX_NAME, Field::Id, required(Field::Id, job)?)
 }
 
-/// The classes that a job declares, none where it has no list of them.
+/// The classes that a job declares; no classes if it has no list of them.
 #[tactic(auto, unfolding(crate::specs::Reading::optional))]
 fn job_classes(alloc: Global, job: &Value) -> Result<Classes, JobError>
     ensures { Gives (λ c. c) result (optional classes_at [] field.ExceptionClasses (view job.now)) }
@@ -105,7 +105,7 @@ fn job_steps(alloc: Global, classes: &Classes, job: &Value) -> Result<Steps, Job
     steps(alloc, classes, items)
 }
 
-/// The Job that the tree stands for, or its first fault.
+/// The Job that the tree describes, or its first fault.
 #[tactic(auto, unfolding(crate::specs::JobRecord::job_at))]
 pub fn job_of(alloc: Global, tree: &Value) -> Result<Job, JobError>
     ensures { Gives (λ j. j) result (job_at (view tree.now)) }
@@ -125,7 +125,7 @@ pub fn job_of(alloc: Global, tree: &Value) -> Result<Job, JobError>
     })
 }
 
-/// The Job that the text stands for, or its first fault: NotJson exactly where the text has no tree.
+/// The Job that the text describes, or its first fault: NotJson exactly if the text has no tree.
 pub fn read_job(alloc: Global, bytes: &[u8]) -> Result<Job, JobError>
     ensures { GivesOfText (λ j. j) job_at result (tree_of bytes.now) }
 {

@@ -8,7 +8,7 @@ use crate::job::Step;
 use jb_base::MAX_STEPS;
 use std::marker::Model;
 
-/// The steps of a job, in order: 1 to 16, of which no two have one id (own choices).
+/// The steps of a job, in order: 1 to 16, no two with the same id (own choices).
 #[derive(Debug, Drop)]
 pub struct Steps {
     steps: Vec<Step>,
@@ -33,7 +33,7 @@ pub(crate) fn has_id(steps: &[Step], id: &str) -> bool
     steps.iter().any(|step| step.id() == id)
 }
 
-/// Whether no two steps have one id.
+/// Whether no two steps have the same id.
 fn have_own_ids(steps: &[Step]) -> bool
     ensures { IsTrue result ↔ HaveOwnIds steps.now }
 {
@@ -49,14 +49,14 @@ impl Steps {
     ghost use Rattle.std.specs.Prelude.{◌≡◌, ◌↔◌, IsTrue};
     ghost use Rattle.jb_job.specs.Kept.{AreSteps};
 
-    /// Whether these may be the steps of a job: 1 to 16, of which no two have one id.
+    /// Whether these may be the steps of a job: 1 to 16, no two with the same id.
     pub fn fit(steps: &[Step]) -> bool
         ensures { IsTrue result ↔ AreSteps steps.now }
     {
         1 <= steps.len() && steps.len() <= MAX_STEPS && have_own_ids(steps)
     }
 
-    /// The list of steps that fit, whose memory it keeps.
+    /// The list of steps that fit. It takes over their memory.
     pub fn new(steps: Vec<Step>) -> Steps
         requires { AreSteps steps.items }
         ensures { result ≡ steps.items }

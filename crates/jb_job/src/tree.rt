@@ -8,8 +8,8 @@ use crate::error::JobError;
 use serde_json::Value;
 use std::alloc::Global;
 
-/// The tree of a text, or NotJson where it has none: it isn't UTF-8, isn't JSON, nests deeper than 127,
-/// or has more than blanks behind it.
+/// The tree of a text, or NotJson if it has none: it isn't UTF-8, isn't JSON, nests deeper than 127, or has more than
+/// blanks after the JSON.
 #[tactic(auto, using(crate::proofs::Texts::text_steps))]
 pub fn read_tree(alloc: Global, bytes: &[u8]) -> Result<Value, JobError>
     ensures ok { IfOk result (λ v. tree_of bytes.now ≡ Some (view v)) }

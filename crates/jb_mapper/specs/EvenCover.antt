@@ -3,7 +3,7 @@ use Rattle.std.specs.Prelude.{ℕ, ◌≡◌, ◌+◌, ◌-◌, ◌*◌, ◌/◌
 use Rattle.std.specs.List.{range_with_len}
 use Rattle.jb_base.specs.declared.range.Range.{Range}
 
--- the records of the first i ranges: each has as many as divide evenly, and the first ones have one more of the rest
+-- the records of the first i ranges: each range has an equal share, and the first ones have one more each from the rest
 abbrev pub bound : (records parts i : ℕ) → ℕ
 bound records parts i = i * (records / parts) + min i (records % parts)
 
@@ -23,8 +23,8 @@ abbrev pub HasRecord : List Range → (i x : ℕ) → Type 0
 HasRecord ranges i x = (i < length ranges) × ((ith_range ranges i).lo ≤ x) × (x < (ith_range ranges i).hi)
 
 -- The even cover of so many records by so many partitions (this project's choice; Jakarta Batch 2.1 leaves it to the
--- mapper): consecutive ranges from 0 to the number of records, of which the first `records % parts` are one longer than
--- the rest, so that each record stands in exactly one.
+-- mapper). The ranges are consecutive from 0 to the number of records. The first `records % parts` of them are one longer
+-- than the rest, and each record is in exactly one.
 pub record IsEvenCover (records parts : ℕ) (ranges : List Range) : Type 0 where
   pub number : length ranges ≡ parts
   pub first : (ith_range ranges 0).lo ≡ 0

@@ -76,14 +76,14 @@ fn ranges(alloc: Global, records: u64, partitions: u64) -> Result<Vec<Range>, Al
     Ok(ranges)
 }
 
-/// The law of even ranges: they are consecutive from 0 to the number of records, the first ones are one longer where
-/// the records don't divide evenly, and each record stands in exactly one.
+/// The law of even ranges: they are consecutive from 0 to the number of records. If the records don't divide evenly, the
+/// first ranges are one longer. Each record is in exactly one range.
 pub fn even_cover(records: u64, partitions: u32)
     requires { 1 ≤ partitions }
     ensures { IsEvenCover records partitions (even_ranges records partitions) }
 {}
 
-/// The law of even plans: with 1 to 1,024 partitions and at most 4,096 threads they can be run, so `jb_plan::checked`
+/// The law of even plans: they can be run with 1 to 1,024 partitions and at most 4,096 threads. So `jb_plan::checked`
 /// accepts them for each number of records that it takes.
 pub fn even_plan_is_runnable(records: u64, partitions: u32, threads: u32, replace: bool)
     requires some { 1 ≤ partitions }

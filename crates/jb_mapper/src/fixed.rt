@@ -7,7 +7,7 @@ use crate::mapper::PartitionMapper;
 use jb_base::ArtifactError;
 use jb_plan::PartitionPlan;
 
-/// A mapper that answers a copy of its plan, whatever the number of records.
+/// A mapper that answers a copy of its plan for any number of records.
 #[derive(Debug, Drop)]
 pub struct FixedMapper {
     plan: PartitionPlan,

@@ -2,7 +2,7 @@
 //!
 //! - `mapper`: the interface.
 //! - `even`: as many even ranges as are asked for.
-//! - `fixed`: the same plan whatever the number of records.
+//! - `fixed`: the same plan for any number of records.
 #![tactic(auto)]
 
 mod even;

@@ -9,17 +9,15 @@ use jb_plan::PartitionPlan;
 
 /// Divides the records of a step among partitions (Jakarta Batch 2.1, "Partition Mapper").
 ///
-/// Its meaning is a plan or a fault class for each number of records. The plan isn't checked:
-/// [`jb_plan::checked`] does that. A fault that can't be foretold from the mapper's value and the number has no answer
-/// here but `Memory`.
+/// Its meaning is a plan or a fault class for each number of records. The plan isn't checked: [`jb_plan::checked`] does
+/// that. A fault that the mapper's value and the number don't determine has no answer here but `Memory`.
 pub trait PartitionMapper {
     ghost mapping: { Self → Mapping };
 
     /// The plan for a step of so many records.
     ///
     /// # Errors
-    /// The mapper's fault for that number, or `Memory` where there is none for the plan. No call changes what the
-    /// mapper means.
+    /// The mapper's fault for that number, or `Memory` if there is no memory for the plan. No call changes what the mapper means.
     fn map(&mut self, records: u64) -> Result<PartitionPlan, ArtifactError>
         ensures plan { IfOk result (λ plan. mapping self.old records ≡ Ok plan) }
         ensures fault { (class : ClassId) → result ≡ Err (ArtifactError.Fault class) → mapping self.old records ≡ Err class }

@@ -19,9 +19,9 @@ block s hi count j = record { lo = s + j * count; hi = min hi (s + (j + 1) * cou
 abbrev pub full_blocks : (s hi count : ℕ) → List Range
 full_blocks s hi count = map (block s hi count) (filter (λ j. nat_lt (s + j * count) hi) (range_with_len 0 (hi - s)))
 
--- The chunks that are left of the records from `at` to `hi - 1` (Jakarta Batch 2.1, "Chunk": as many items as the
--- step's item-count says; that it is shorter at the range's end alone is this project's choice). Below `redo`, up to
--- which a rolled-back chunk is done again, each record is a chunk of its own (also this project's choice).
+-- The chunks that are left of the records from `at` to `hi - 1`. Each has as many items as the step's item-count says
+-- (Jakarta Batch 2.1, "Chunk"). Only the one at the range's end may be shorter (this project's choice). Below `redo`, up
+-- to which a rolled-back chunk is done again, each chunk has one record (also this project's choice).
 unfoldable pub blocks : (at redo hi count : ℕ) → List Range
 blocks at redo hi count = singles at redo ++ full_blocks (max at redo) hi count
 
@@ -29,21 +29,21 @@ blocks at redo hi count = singles at redo ++ full_blocks (max at redo) hi count
 abbrev pub left : (at redo hi count : ℕ) → ℕ
 left at redo hi count = length (blocks at redo hi count)
 
--- the next chunk, which is the first of them; where nothing is left, no record from `at` on
+-- the next chunk, which is the first of them; if nothing is left, the empty range at `at`
 abbrev pub next_block : (at redo hi count : ℕ) → Range
 next_block at redo hi count = unwrap_or (slice_get (blocks at redo hi count) 0) (record { lo = at; hi = at })
 
 -- LAWS
 
--- the block holds the next records, one at least, within the range, and the chunks that are left after it are the others
+-- the block holds the next records, at least one, within the range; the other chunks are left after it
 pub record IsNext (at redo hi count : ℕ) (block : Range) : Type 0 where
   pub from : block.lo ≡ at
   pub some : at < block.hi
   pub within : block.hi ≤ hi
   pub others : blocks at redo hi count ≡ block ∷ blocks block.hi redo hi count
 
--- the chunks that are left follow one another up to the range's end: from the end of any of them on, those behind it are left;
--- and there are no more of them than records
+-- the chunks that are left follow one another up to the range's end: from the end of each chunk on, the chunks after it
+-- are left; and there are no more chunks than records
 pub record ChunksFollow : Type 0 where
   pub next : (at redo hi count : ℕ) → at < hi → redo ≤ hi → 1 ≤ count → IsNext at redo hi count (next_block at redo hi count)
   pub none : (redo hi count : ℕ) → redo ≤ hi → blocks hi redo hi count ≡ []

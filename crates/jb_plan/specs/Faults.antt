@@ -7,7 +7,7 @@ use Rattle.jb_plan.specs.declared.plan.PartitionPlan.{PartitionPlan}
 use Rattle.jb_base.specs.Limits.{max_partitions, max_threads_asked}
 use Rattle.jb_plan.specs.Ranges.{do_overlap}
 
--- this error, where the condition holds
+-- this error, if the condition holds
 abbrev pub error_if : Bool → PlanError → List PlanError
 error_if holds error = if holds then error ∷ [] else []
 

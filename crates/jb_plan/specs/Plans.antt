@@ -9,8 +9,8 @@ use Rattle.jb_base.specs.Limits.{max_partitions, max_records, max_threads, max_t
 abbrev pub IsWithin : (records : ℕ) → Range → Type 0
 IsWithin records r = (r.lo ≤ r.hi) × (r.hi ≤ records)
 
--- A plan that can be run by a step of so many records (Jakarta Batch 2.1, "Partition Mapper", leaves the meaning of a partition to the application; that partitions
--- are ranges of records, and the limits, are this project's choice).
+-- A plan that can be run by a step of so many records. Jakarta Batch 2.1 ("Partition Mapper") leaves the meaning of a
+-- partition to the application. That partitions are ranges of records, and the limits, are this project's choice.
 pub record IsRunnable (records : ℕ) (plan : PartitionPlan) : Type 0 where
   pub some : 1 ≤ length plan.ranges
   pub few : length plan.ranges ≤ max_partitions
@@ -18,7 +18,7 @@ pub record IsRunnable (records : ℕ) (plan : PartitionPlan) : Type 0 where
   pub disjoint : AreDisjoint plan.ranges
   pub threads : plan.threads ≤ max_threads_asked
 
--- as many threads as were asked for, or as there are ranges where 0 was; at most 64
+-- as many threads as the plan asks for, or one for each range if it asks for 0; at most 64
 abbrev pub threads_of : PartitionPlan → ℕ
 threads_of plan = min (if plan.threads == 0 then length plan.ranges else plan.threads) max_threads
 
@@ -31,7 +31,7 @@ pub record CheckedPlan : Type 0 where
 abbrev pub checked_plan : PartitionPlan → CheckedPlan
 checked_plan plan = record { ranges = plan.ranges; threads = threads_of plan; replace = plan.replace }
 
--- what each checked plan keeps
+-- the invariant of a checked plan
 pub record IsCheckedPlan (plan : CheckedPlan) : Type 0 where
   pub some : 1 ≤ length plan.ranges
   pub few : length plan.ranges ≤ max_partitions

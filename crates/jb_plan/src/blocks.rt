@@ -6,7 +6,7 @@ ghost use Rattle.jb_plan.specs.Blocks.{blocks, left, first_block, blocks_left, I
 
 use jb_base::Range;
 
-/// The next chunk of the records from `at` to below `hi`, or none where nothing is left.
+/// The next chunk of the records from `at` to below `hi`, or None if nothing is left.
 ///
 /// A chunk has `item_count` records and is shorter only at the range's end (Jakarta Batch 2.1, "Chunk"). Below
 /// `redo`, where an earlier chunk was rolled back to be retried, each chunk has one record.
@@ -48,8 +48,8 @@ pub fn chunks_left(at: u64, redo: u64, hi: u64, item_count: u64) -> u64
     redo.saturating_sub(at) + (hi - at.max(redo)).div_ceil(item_count)
 }
 
-/// The law of chunks: each is followed by the others that are left, up to the range's end; from the end of any of them on
-/// those behind it are left; and there are no more of them than records.
+/// The law of chunks: those that are left follow one another up to the range's end. From the end of each chunk on, the
+/// chunks after it are left. There are no more chunks than records.
 pub fn chunks_follow_one_another()
     ensures { ChunksFollow }
 {}

@@ -11,7 +11,7 @@ use crate::fault::PlanError;
 use crate::plan::{Checked, PartitionPlan};
 use jb_base::{MAX_PARTITIONS, MAX_THREADS_ASKED, Range};
 
-/// Whether some record stands in both ranges.
+/// Whether some record is in both ranges.
 pub fn do_overlap(left: Range, right: Range) -> bool
     ensures { result ≡ do_overlap left right }
 {
@@ -45,7 +45,7 @@ pub fn ranges_in(ranges: &[Range], records: u64) -> Result<(), PlanError>
     check_bounds(ranges, records)
 }
 
-/// Refuses the first range after the i-th that has a record of it.
+/// Refuses the first range after the i-th that has a record in common with it.
 fn check_apart(i: usize, range: Range, ranges: &[Range]) -> Result<(), PlanError>
     requires { i < length ranges.now }
     ensures { FindsFirst (overlaps_with i range (i + 1) (drop (i + 1) ranges.now)) result }
@@ -68,7 +68,7 @@ fn check_all_apart(ranges: &[Range]) -> Result<(), PlanError>
     Ok(())
 }
 
-/// Whether no record stands in two of the ranges. An empty range has none in common with any. No memory is taken.
+/// Whether no record is in two of the ranges. An empty range has no record in common with any. Takes no memory.
 pub fn are_disjoint(ranges: &[Range]) -> bool
     ensures { IsTrue result ↔ AreDisjoint ranges.now }
 {
@@ -77,9 +77,9 @@ pub fn are_disjoint(ranges: &[Range]) -> bool
 
 /// Checks a plan for a step of so many records.
 ///
-/// It is refused where it has no range or more than 1,024, where a range is reversed or ends past the last record, where
-/// some record stands in two ranges, and where it asks for more than 4,096 threads. Of several faults the first in
-/// this order is answered, ranges and pairs of ranges by their places. No memory is taken.
+/// These are the reasons to refuse it: no range, or more than 1,024; a range that is reversed or ends past the last
+/// record; a record in two ranges; more than 4,096 threads. Of several faults the first in this order is answered, ranges
+/// and pairs of ranges by their places. Takes no memory.
 pub fn checked(plan: PartitionPlan, records: u64) -> Result<Checked, PlanError>
     requires { records ≤ max_records }
     ensures ok { IsOk result ↔ IsRunnable records plan }

@@ -14,7 +14,7 @@ pub enum PlanError {
     Reversed(usize),
     /// This range ends past the last record.
     PastEnd(usize),
-    /// Some record stands in both of these ranges.
+    /// Some record is in both of these ranges.
     Overlap(usize, usize),
     /// The plan asks for more than 4,096 threads.
     Threads,

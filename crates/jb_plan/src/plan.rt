@@ -14,11 +14,11 @@ pub struct PartitionPlan {
     pub ranges: Ranges,
     /// How many threads to use; 0 asks for as many as there are partitions.
     pub threads: u32,
-    /// Whether a restart begins all partitions anew (partitionsOverride).
+    /// Whether a restart begins all partitions from the start (partitionsOverride).
     pub replace: bool,
 }
 
-/// A plan that can be run: 1 to 1,024 ranges, none reversed, no record in two of them, and 1 to 64 threads.
+/// A plan that can be run: 1 to 1,024 ranges, none of them reversed, no record in two of them, and 1 to 64 threads.
 #[derive(Debug, Drop)]
 pub struct Checked {
     ranges: Ranges,
@@ -51,7 +51,7 @@ impl PartitionPlan {
 }
 
 impl Checked {
-    /// The checked plan of one that can be run by a step of so many records.
+    /// The checked form of a plan that a step of so many records can run.
     pub(crate) fn of(plan: PartitionPlan, records: u64) -> Checked
         requires runnable { IsRunnable records plan }
         requires records { records ≤ max_records }
@@ -73,8 +73,8 @@ impl Checked {
         self.ranges.as_slice()
     }
 
-    /// How many threads the step uses: as many as were asked for, or as there are partitions where 0 was, but 64 at
-    /// most (Jakarta Batch 2.1, "Partition Plan", lets a runtime use fewer; the limit is this project's own).
+    /// How many threads the step uses: as many as the plan asks for, or one for each partition if it asks for 0, but 64
+    /// at most. A runtime may use fewer (Jakarta Batch 2.1, "Partition Plan"); the limit is this project's own.
     pub fn threads(&self) -> u32
         ensures threads { result ≡ self.now.threads }
         ensures some { 1 ≤ result }
@@ -83,7 +83,7 @@ impl Checked {
         self.threads
     }
 
-    /// Whether a restart begins all partitions anew.
+    /// Whether a restart begins all partitions from the start.
     pub fn replace(&self) -> bool
         ensures { result ≡ self.now.replace }
     {

@@ -4,7 +4,7 @@ use Rattle.std.proofs.Math.Seq.{drop-nil}
 use Rattle.jb_collect.specs.declared.calls.ReducerCall.{ReducerCall}
 use Rattle.jb_collect.specs.declared.calls.ReducerCall.TheVariants.{Begin, Before, Rollback, After}
 use Rattle.jb_collect.specs.ReducerCalls.{before_failed, calls_after}
-use Rattle.jb_collect.specs.Taken.{Taken, Grew, calls_of, since, well}
+use Rattle.jb_collect.specs.AnsweredCalls.{AnsweredCall, Grew, calls_of, since, well}
 use Rattle.jb_repo.specs.declared.snapshot.Snapshot.{Snapshot}
 use Rattle.jb_step.specs.Answers.{AreCallsAfter}
 use Rattle.jb_step.specs.callbacks.Callbacks.{has_fault}
@@ -29,7 +29,7 @@ well-before zero (Rollback ∷ calls) = well-before zero calls
 well-before zero (After status ∷ calls) = well-before zero calls
 well-before (suc n) (call ∷ calls) = well-before n calls
 
-calls-append : {C : Type 0} (one other : List (Taken C)) → calls_of (one ++ other) ≡ calls_of one ++ calls_of other
+calls-append : {C : Type 0} (one other : List (AnsweredCall C)) → calls_of (one ++ other) ≡ calls_of one ++ calls_of other
 calls-append [] other = refl
 calls-append (t ∷ one) other = ap (λ cs. t.call ∷ cs) (calls-append one other)
 
@@ -40,9 +40,9 @@ well-grew old new grew =
     sym (well-calls new) ∙ ap calls_of grew ∙ calls-append (map well old) next ∙ ap (λ cs. cs ++ calls_of next) (well-calls old)
 
 -- the calls of a reducer at the end, where it and the analyzer answer each call well
-pub well-after : (snapshot : Snapshot) (heard : List (Taken AnalyzerCall)) (more : List AnalyzerCall) (old new : List ReducerCall) → Grew (map well old) (map well new)
+pub well-after : (snapshot : Snapshot) (heard : List (AnsweredCall AnalyzerCall)) (more : List AnalyzerCall) (old new : List ReducerCall) → Grew (map well old) (map well new)
     → AreCallsAfter snapshot (since heard (map well more)) (since (map well old) (map well new)) → new ≡ old ++ calls_after (status_of snapshot.rows.items false) false
 well-after snapshot heard more old new grew after =
     well-grew old new grew
     ∙ ap (λ cs. old ++ cs) (after
-    ∙ ap₂ (λ told before. calls_after (status_of snapshot.rows.items told) before) (well-faults (length heard) more) (well-before (length (map {B = Taken ReducerCall} well old)) new))
+    ∙ ap₂ (λ reported before. calls_after (status_of snapshot.rows.items reported) before) (well-faults (length heard) more) (well-before (length (map {B = AnsweredCall ReducerCall} well old)) new))

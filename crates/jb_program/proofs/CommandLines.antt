@@ -139,13 +139,13 @@ text-at words k d text within is =
 -- the last word is the wrong one, where the words up to each before it can go on
 pub last-wrong : (words others : List (Bor Text)) (last : Bor Text) (text : Text) → words ≡ others ++ last ∷ [] → text ≡ last.now → AreUnknown (texts words) → GoOnUpTo (texts words) (length others)
     → IsWrongWord (texts words) text
-last-wrong words others last text is told unknown before =
+last-wrong words others last text is reported unknown before =
     let count : length words ≡ length others + 1 = ap length is ∙ length-append others (last ∷ []) in
     let there : get_or words (length others) last ≡ last = ap (λ ws. get_or ws (length others) last) is ∙ get_or-at others last in
     record {
       unknown = unknown;
       place = length others;
-      is_there = text-at words (length others) last text (omega (arith, count)) (told ∙ ap (λ (w : Bor Text). w.now) (sym there));
+      is_there = text-at words (length others) last text (omega (arith, count)) (reported ∙ ap (λ (w : Bor Text). w.now) (sym there));
       before = before;
       up_to = inr (omega (arith, count, length-map words (λ (w : Bor Text). w.now)));
     }

@@ -1,9 +1,9 @@
 -- What follows of results and bytes that are known.
 use Rattle.std.proofs.Common.{ℕ, List, Option, Some, None, Result, Ok, Err, IfOk, IfSome}
-use Rattle.jb_program.specs.declared.streams.failure.Failure.{Failure}
+use Rattle.jb_program.specs.declared.streams.error.ProgramError.{ProgramError}
 
 -- what follows of a result that is there
-pub ok-along : {P Q : ℕ → Type 0} (r : Result ℕ Failure) → ((x : ℕ) → P x → Q x) → IfOk r P → IfOk r Q
+pub ok-along : {P Q : ℕ → Type 0} (r : Result ℕ ProgramError) → ((x : ℕ) → P x → Q x) → IfOk r P → IfOk r Q
 ok-along (Ok x) f h = f x h
 ok-along (Err e) f h = tt
 

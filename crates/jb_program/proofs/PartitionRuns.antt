@@ -11,7 +11,7 @@ use Rattle.jb_rules.specs.declared.row.Row.{Row}
 use Rattle.jb_artifacts.specs.Meaning.{ArtifactsMeaning}
 use Rattle.jb_chunk.specs.Alone.{IsAlone, IsOnTheWay, IsRunOf}
 use Rattle.jb_chunk.specs.Attempt.{AttemptEnd}
-use Rattle.jb_chunk.specs.Standing.{HasItemCount, IsReady, TaskState, started}
+use Rattle.jb_chunk.specs.TaskState.{HasItemCount, IsReady, TaskState, started}
 use Rattle.jb_step.specs.Answers.{artifacts_of}
 use Rattle.jb_step.specs.preparing.Setup.{Setup, row_now, rows_now}
 use Rattle.jb_step.specs.Alone.{AreOnTheWay}
@@ -19,7 +19,7 @@ use Rattle.jb_documents.specs.declared.run.step_data.StepData.{StepData}
 use Rattle.jb_texts.specs.Report.{PartitionReport}
 use Rattle.jb_program.specs.declared.run.settings.StepSettings.{StepSettings}
 use Rattle.jb_program.specs.JobRun.{settings_of}
-use Rattle.jb_program.specs.inside.Below.{LawsOfTheCratesBelow}
+use Rattle.jb_program.specs.inside.LowerLaws.{LowerCrateLaws}
 use Rattle.jb_program.specs.PartitionRun.{ArePartitionRuns, IsPartitionRun, begun_with, held_by, report_of, opening_artifacts_for}
 use Rattle.jb_program.specs.StepRun.{committed_of, outputs_in, partitions_left}
 use Rattle.jb_program.proofs.Opening.{AreOpening, IsOpening}
@@ -49,7 +49,7 @@ first-ready settings records outputs p row kept is =
     }
 
 -- wherever its own attempts lead it, that is what it leaves by itself
-pub leaves : LawsOfTheCratesBelow → (settings : StepSettings) (records : List (List ℕ)) (outputs : List (List (List ℕ))) (p : ℕ) (row : Row) (left : TaskState) → AreKept settings → IsOpening (length records) outputs p row
+pub leaves : LowerCrateLaws → (settings : StepSettings) (records : List (List ℕ)) (outputs : List (List (List ℕ))) (p : ℕ) (row : Row) (left : TaskState) → AreKept settings → IsOpening (length records) outputs p row
     → IsOnTheWay (begun_with settings records outputs p row) left → IsPartitionRun (begun_with settings records outputs p row) (report_of left)
 leaves below settings records outputs p row left kept is way =
     let begun = begun_with settings records outputs p row in
@@ -144,7 +144,7 @@ Runs step supply outputs k rows ns =
     → ArePartitionRuns (begun_with (settings_of step supply) supply.records outputs) k rows (reports_from outputs ends (artifacts_of ends) k rows)
 
 -- one partition more, which was finished before
-none-more : LawsOfTheCratesBelow → (step : StepRecord) (supply : StepData) (outputs : List (List (List ℕ))) (k : ℕ) (row : Row) (rows : List Row) → AreKept (settings_of step supply)
+none-more : LowerCrateLaws → (step : StepRecord) (supply : StepData) (outputs : List (List (List ℕ))) (k : ℕ) (row : Row) (rows : List Row) → AreKept (settings_of step supply)
     → IsOpening (length supply.records) outputs k row → Runs step supply outputs (k + 1) rows (open_from (k + 1) rows) → Runs step supply outputs k (row ∷ rows) (open_from (k + 1) rows)
 none-more below step supply outputs k row rows kept opens rest ends way =
     let settings = settings_of step supply in
@@ -158,7 +158,7 @@ none-more below step supply outputs k row rows kept opens rest ends way =
     )
 
 -- one partition more, which was run
-one-more : LawsOfTheCratesBelow → (step : StepRecord) (supply : StepData) (outputs : List (List (List ℕ))) (k : ℕ) (row : Row) (rows : List Row) → AreKept (settings_of step supply)
+one-more : LowerCrateLaws → (step : StepRecord) (supply : StepData) (outputs : List (List (List ℕ))) (k : ℕ) (row : Row) (rows : List Row) → AreKept (settings_of step supply)
     → IsOpening (length supply.records) outputs k row → Runs step supply outputs (k + 1) rows (open_from (k + 1) rows) → Runs step supply outputs k (row ∷ rows) ((k, row) ∷ open_from (k + 1) rows)
 one-more below step supply outputs k row rows kept opens rest [] way = absurd way
 one-more below step supply outputs k row rows kept opens rest (t ∷ ends) way =
@@ -177,14 +177,14 @@ one-more below step supply outputs k row rows kept opens rest (t ∷ ends) way =
       subst (λ (others : List PartitionReport). ArePartitionRuns (begun_with settings supply.records outputs) (k + 1) rows others) (sym (rest-from outputs t ends (k + 1) rows before)) (rest ends way.1),
     )
 
-next : LawsOfTheCratesBelow → (step : StepRecord) (supply : StepData) (outputs : List (List (List ℕ))) (k : ℕ) (row : Row) (rows : List Row) (finished : Bool) → AreKept (settings_of step supply)
+next : LowerCrateLaws → (step : StepRecord) (supply : StepData) (outputs : List (List (List ℕ))) (k : ℕ) (row : Row) (rows : List Row) (finished : Bool) → AreKept (settings_of step supply)
     → IsOpening (length supply.records) outputs k row → is_finished row.state ≡ finished → Runs step supply outputs (k + 1) rows (open_from (k + 1) rows) → Runs step supply outputs k (row ∷ rows) (open_from k (row ∷ rows))
 next below step supply outputs k row rows true kept opens is rest =
     subst (λ ns. Runs step supply outputs k (row ∷ rows) ns) (sym (open-none k row rows is)) (none-more below step supply outputs k row rows kept opens rest)
 next below step supply outputs k row rows false kept opens is rest =
     subst (λ ns. Runs step supply outputs k (row ∷ rows) ns) (sym (open-more k row rows is)) (one-more below step supply outputs k row rows kept opens rest)
 
-runs-from : LawsOfTheCratesBelow → (step : StepRecord) (supply : StepData) (outputs : List (List (List ℕ))) (k : ℕ) (rows : List Row) → AreKept (settings_of step supply)
+runs-from : LowerCrateLaws → (step : StepRecord) (supply : StepData) (outputs : List (List (List ℕ))) (k : ℕ) (rows : List Row) → AreKept (settings_of step supply)
     → AreOpening (length supply.records) outputs k rows → Runs step supply outputs k rows (open_from k rows)
 runs-from below step supply outputs k [] kept opens = λ ends way. refl
 runs-from below step supply outputs k (row ∷ rows) kept opens =
@@ -198,7 +198,7 @@ left-from outputs table left k [] = refl
 left-from outputs table left k (row ∷ rows) = ap (λ others. report_at outputs table left (k, row) ∷ others) (left-from outputs table left (k + 1) rows)
 
 -- each partition left what it leaves by itself
-pub partition-runs : LawsOfTheCratesBelow → (step : StepRecord) (supply : StepData) (outputs : List (List (List ℕ))) (s : Setup) (rows : List Row) (left : List (ℕ × ArtifactsMeaning)) (ends : List TaskState) → AreKept (settings_of step supply)
+pub partition-runs : LowerCrateLaws → (step : StepRecord) (supply : StepData) (outputs : List (List (List ℕ))) (s : Setup) (rows : List Row) (left : List (ℕ × ArtifactsMeaning)) (ends : List TaskState) → AreKept (settings_of step supply)
     → AreOpening (length supply.records) outputs 0 s.rows → AreOnTheWay (tasks_of step supply outputs (open_from 0 s.rows)) ends → rows ≡ rows_now s.rows ends → left ≡ artifacts_of ends
     → ArePartitionRuns (begun_with (settings_of step supply) supply.records outputs) 0 s.rows (partitions_left outputs rows left)
 partition-runs below step supply outputs s rows left ends kept opens way are came_back =

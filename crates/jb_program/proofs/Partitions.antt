@@ -1,7 +1,7 @@
 -- What the plain run of a partition leaves.
 use Rattle.std.proofs.Common.{◌≡◌, map, ap}
 use Rattle.std.specs.Str.Lossy.{utf8_lossy}
-use Rattle.jb_chunk.specs.Standing.{TaskState}
+use Rattle.jb_chunk.specs.TaskState.{TaskState}
 use Rattle.jb_chunk.specs.Plain.{IsPlain}
 use Rattle.jb_program.specs.PartitionRun.{plain_report, report_of}
 

@@ -9,7 +9,7 @@ use Rattle.jb_mapper.specs.EvenCover.{even_ranges}
 use Rattle.jb_mapper.specs.Mapping.{even, fixed}
 use Rattle.jb_collect.specs.declared.calls.ReducerCall.{ReducerCall}
 use Rattle.jb_collect.specs.declared.calls.ReducerCall.TheVariants.{Begin}
-use Rattle.jb_collect.specs.Taken.{Taken, Grew, calls_of, faulted, since, well}
+use Rattle.jb_collect.specs.AnsweredCalls.{AnsweredCall, Grew, calls_of, faulted, since, well}
 use Rattle.jb_step.specs.preparing.Prepare.{CanOverride, IsFaultedRollback, IsPrepareRefusal}
 use Rattle.jb_step.specs.callbacks.Callbacks.{has_fault}
 use Rattle.jb_saved.specs.SavedRows.{SavedRows}
@@ -36,7 +36,7 @@ own-plan spec records own threads replace some same-threads same-replace =
 -- ---- what `prepare` leaves
 
 -- only the plan and the saved rows may be refused, where there is memory
-pub other-refusal : (step : StepRecord) (records : ℕ) (mapped : Result PartitionPlan ClassId) (saved : Option SavedRows) (plan : PartitionPlan) (before : List (Taken ReducerCall)) (new : List ReducerCall) (e : StepError) → Grew before (map well new) → mapped ≡ Ok plan
+pub other-refusal : (step : StepRecord) (records : ℕ) (mapped : Result PartitionPlan ClassId) (saved : Option SavedRows) (plan : PartitionPlan) (before : List (AnsweredCall ReducerCall)) (new : List ReducerCall) (e : StepError) → Grew before (map well new) → mapped ≡ Ok plan
     → IsPrepareRefusal step records mapped saved (since before (map well new)) e → ((fault : PlanError) → e ≡ error.Plan fault → ⊥) → ((place : SavedPlace) → e ≡ error.Saved place → ⊥) → (e ≡ error.Memory → ⊥) → ⊥
 other-refusal step records mapped saved plan before new (error.Plan fault) grew maps is plans places memory = plans fault refl
 other-refusal step records mapped saved plan before new (error.Mapper class) grew maps is plans places memory = cc
@@ -53,11 +53,11 @@ other-refusal step records mapped saved plan before new (error.Saved place) grew
 other-refusal step records mapped saved plan before new error.Memory grew maps is plans places memory = memory refl
 
 -- the reducer took these calls more
-pub begun : (before after : List (Taken ReducerCall)) (old new calls : List ReducerCall) → Grew before after → calls_of (since before after) ≡ calls
+pub begun : (before after : List (AnsweredCall ReducerCall)) (old new calls : List ReducerCall) → Grew before after → calls_of (since before after) ≡ calls
     → before ≡ map well old → after ≡ map well new → new ≡ old ++ calls
 begun before after old new calls grew taken was is =
-    let grown = subst (λ (list : List (Taken ReducerCall)). Grew list after) was grew in
-    let all = subst (λ (list : List (Taken ReducerCall)). Grew (map well old) list) is grown in
-    let first = subst (λ (list : List (Taken ReducerCall)). calls_of (since list after) ≡ calls) was taken in
-    let next = subst (λ (list : List (Taken ReducerCall)). calls_of (since (map well old) list) ≡ calls) is first in
+    let grown = subst (λ (list : List (AnsweredCall ReducerCall)). Grew list after) was grew in
+    let all = subst (λ (list : List (AnsweredCall ReducerCall)). Grew (map well old) list) is grown in
+    let first = subst (λ (list : List (AnsweredCall ReducerCall)). calls_of (since list after) ≡ calls) was taken in
+    let next = subst (λ (list : List (AnsweredCall ReducerCall)). calls_of (since (map well old) list) ≡ calls) is first in
     well-grew old new all ∙ ap (λ cs. old ++ cs) next

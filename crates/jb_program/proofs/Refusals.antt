@@ -4,8 +4,8 @@ use Rattle.std.specs.List.{zip}
 use Rattle.jb_job.specs.declared.error.JobError.{JobError}
 use Rattle.jb_job.specs.declared.error.JobError.TheVariants as fault
 use Rattle.jb_plan.specs.declared.fault.PlanError.{PlanError}
-use Rattle.jb_program.specs.declared.streams.failure.Failure.{Failure}
-use Rattle.jb_program.specs.declared.streams.failure.Failure.TheVariants as failure
+use Rattle.jb_program.specs.declared.streams.error.ProgramError.{ProgramError}
+use Rattle.jb_program.specs.declared.streams.error.ProgramError.TheVariants as failure
 use Rattle.jb_program.specs.declared.words.request.Word.TheVariants as word
 use Rattle.jb_program.specs.Statuses.{failure_of, failure_code, restart_failure}
 use Rattle.jb_program.specs.Refusals.{IsBreakOff, IsDocumentFailure, IsRunFailure}
@@ -42,17 +42,17 @@ pub ruleset refusals = (failure-of_fault, failure-of_fault)
 -- ---- why a job has no report
 
 -- an error that is handed on as it is
-pub handed-on : (r : Result ℕ Failure) (e : Failure) (P : Failure → Type 0) → IsErrAnd r (λ one. one ≡ e) → P e → IfErr r P
+pub handed-on : (r : Result ℕ ProgramError) (e : ProgramError) (P : ProgramError → Type 0) → IsErrAnd r (λ one. one ≡ e) → P e → IfErr r P
 handed-on (Ok status) e P is holds = tt
 handed-on (Err one) e P is holds = subst P (sym is) holds
 
 -- a step is refused for its plan or for saved rows
-abbrev IsRefusal : Failure → Type 0
+abbrev IsRefusal : ProgramError → Type 0
 IsRefusal (failure.Plan f) = Unit {0}
 IsRefusal (failure.Saved place) = Unit {0}
 IsRefusal _ = ⊥
 
-not-begun : (step : StepRecord) (supply : StepData) (resume : Option Resume) (e : Failure) → IsStepRefused step supply resume e → IsRefusal e
+not-begun : (step : StepRecord) (supply : StepData) (resume : Option Resume) (e : ProgramError) → IsStepRefused step supply resume e → IsRefusal e
 not-begun step supply resume (failure.Plan f) refused = tt
 not-begun step supply resume (failure.Saved place) refused = tt
 not-begun step supply resume (failure.Document f) refused = refused
@@ -62,13 +62,13 @@ not-begun step supply resume failure.Workers refused = refused
 not-begun step supply resume (failure.Repository p) refused = refused
 not-begun step supply resume (failure.Usage f) refused = refused
 
-at-step : (steps : List (StepRecord × StepData)) (round_limit : Option ℕ) (resume : Option Resume) (e : Failure) → IsRefusedAtStep steps round_limit resume e → IsRefusal e
+at-step : (steps : List (StepRecord × StepData)) (round_limit : Option ℕ) (resume : Option Resume) (e : ProgramError) → IsRefusedAtStep steps round_limit resume e → IsRefusal e
 at-step [] round_limit resume e refused = absurd refused
 at-step ((step, supply) ∷ steps) round_limit resume e (inl refused) = not-begun step supply resume e refused
 at-step ((step, supply) ∷ steps) round_limit resume e (inr later) = at-step steps round_limit None e later.3
 
 -- what broke a run off, or why a step is refused, is a failure of `run`
-fails-for : (R : Failure → Type 0) → ((e : Failure) → R e → IsRefusal e) → (e : Failure) → IsBreakOff e ⊎ R e → IsRunFailure e
+fails-for : (R : ProgramError → Type 0) → ((e : ProgramError) → R e → IsRefusal e) → (e : ProgramError) → IsBreakOff e ⊎ R e → IsRunFailure e
 fails-for R refusal (failure.Plan f) why = tt
 fails-for R refusal (failure.Saved place) why = tt
 fails-for R refusal (failure.Document f) (inl broken) = absurd broken
@@ -81,27 +81,27 @@ fails-for R refusal (failure.Usage f) (inl broken) = absurd broken
 fails-for R refusal (failure.Usage f) (inr refused) = absurd (refusal (failure.Usage f) refused)
 
 -- it is no fault of the document
-no-document : (R : Failure → Type 0) → ((e : Failure) → R e → IsRefusal e) → (e : Failure) → IsBreakOff e ⊎ R e → (f : JobError) → e ≡ failure.Document f → ⊥
+no-document : (R : ProgramError → Type 0) → ((e : ProgramError) → R e → IsRefusal e) → (e : ProgramError) → IsBreakOff e ⊎ R e → (f : JobError) → e ≡ failure.Document f → ⊥
 no-document R refusal e (inl broken) f is = subst IsBreakOff is broken
 no-document R refusal e (inr refused) f is = subst IsRefusal is (refusal e refused)
 
 -- where nothing broke it off, a step is refused
-refused-by : (R : Failure → Type 0) (e other : Failure) → (IsBreakOff other → ⊥) → IsBreakOff e ⊎ R e → e ≡ other → R other
+refused-by : (R : ProgramError → Type 0) (e other : ProgramError) → (IsBreakOff other → ⊥) → IsBreakOff e ⊎ R e → e ≡ other → R other
 refused-by R e other whole (inl broken) is = absurd (whole (subst IsBreakOff is broken))
 refused-by R e other whole (inr refused) is = subst R is refused
 
 -- what is said where a run gives no report, of the bytes that were read
-pub record RunFails (round_limit : Option ℕ) (input : Option (List ℕ)) (e : Failure) : Type 0 where
+pub record RunFails (round_limit : Option ℕ) (input : Option (List ℕ)) (e : ProgramError) : Type 0 where
   pub refused : (f : JobError) → e ≡ failure.Document f → IfSome input (IsRefusedDocument f)
   pub unplanned : (f : PlanError) → e ≡ failure.Plan f → IfSome input (IsRefusedPlan round_limit f)
   pub unsaved : (place : SavedPlace) → e ≢ failure.Saved place
   pub failures : IsRunFailure e
 
-pub run-fails : (round_limit : Option ℕ) (input : Option (List ℕ)) (items : List ℕ) (document : Document) (e : Failure) → IfSome input (λ bytes. items ≡ bytes) → IsDocument items document
+pub run-fails : (round_limit : Option ℕ) (input : Option (List ℕ)) (items : List ℕ) (document : Document) (e : ProgramError) → IfSome input (λ bytes. items ≡ bytes) → IsDocument items document
     → IsBreakOff e ⊎ IsRefusedAtStep (zip document.job.steps document.step_data) round_limit None e → RunFails round_limit input e
 run-fails round_limit input items document e are read why =
-    let R : Failure → Type 0 = λ one. IsRefusedAtStep (zip document.job.steps document.step_data) round_limit None one in
-    let refusal : (one : Failure) → R one → IsRefusal one = λ one. at-step (zip document.job.steps document.step_data) round_limit None one in
+    let R : ProgramError → Type 0 = λ one. IsRefusedAtStep (zip document.job.steps document.step_data) round_limit None one in
+    let refusal : (one : ProgramError) → R one → IsRefusal one = λ one. at-step (zip document.job.steps document.step_data) round_limit None one in
     record {
       refused = λ f is. absurd (no-document R refusal e why f is);
       unplanned = λ f is. some-along {P = λ bytes. items ≡ bytes} {Q = IsRefusedPlan round_limit f} input
@@ -111,23 +111,23 @@ run-fails round_limit input items document e are read why =
     }
 
 -- the same of a restart
-pub record RestartFails (round_limit : Option ℕ) (input : Option (List ℕ)) (e : Failure) : Type 0 where
+pub record RestartFails (round_limit : Option ℕ) (input : Option (List ℕ)) (e : ProgramError) : Type 0 where
   pub refused : (f : JobError) → e ≡ failure.Document f → IfSome input (IsRefusedRestart (restart_fault.Document f))
   pub unplanned : (f : PlanError) → e ≡ failure.Plan f → IfSome input (IsRefusedRestartStep round_limit (failure.Plan f))
   pub unsaved : (place : SavedPlace) → e ≡ failure.Saved place → IfSome input (IsRefusedSaved round_limit place)
   pub failures : IsRunFailure e
 
-pub restart-fails : (round_limit : Option ℕ) (input : Option (List ℕ)) (items : List ℕ) (document : RestartDocument) (e : Failure) → IfSome input (λ bytes. items ≡ bytes) → IsRestartText items document
+pub restart-fails : (round_limit : Option ℕ) (input : Option (List ℕ)) (items : List ℕ) (document : RestartDocument) (e : ProgramError) → IfSome input (λ bytes. items ≡ bytes) → IsRestartText items document
     → IsBreakOff e ⊎ IsRestartRefused document round_limit e → RestartFails round_limit input e
 restart-fails round_limit input items document e are read why =
-    let R : Failure → Type 0 = λ one. IsRestartRefused document round_limit one in
-    let refusal : (one : Failure) → R one → IsRefusal one = λ one. at-step (drop (done_before document) (zip document.job.steps document.step_data)) round_limit (Some document.resume) one in
-    let told : (one : Failure) → (IsBreakOff one → ⊥) → e ≡ one → (bytes : List ℕ) → items ≡ bytes → IsRefusedRestartStep round_limit one bytes =
+    let R : ProgramError → Type 0 = λ one. IsRestartRefused document round_limit one in
+    let refusal : (one : ProgramError) → R one → IsRefusal one = λ one. at-step (drop (done_before document) (zip document.job.steps document.step_data)) round_limit (Some document.resume) one in
+    let reported : (one : ProgramError) → (IsBreakOff one → ⊥) → e ≡ one → (bytes : List ℕ) → items ≡ bytes → IsRefusedRestartStep round_limit one bytes =
     λ one whole is bytes here. record { document = document; read = subst (λ bs. IsRestartText bs document) here read; refused = refused-by R e one whole why is } in
     record {
       refused = λ f is. absurd (no-document R refusal e why f is);
-      unplanned = λ f is. some-along {P = λ bytes. items ≡ bytes} {Q = IsRefusedRestartStep round_limit (failure.Plan f)} input (told (failure.Plan f) (λ broken. broken) is) are;
-      unsaved = λ place is. some-along {P = λ bytes. items ≡ bytes} {Q = IsRefusedSaved round_limit place} input (λ bytes here. inr (told (failure.Saved place) (λ broken. broken) is bytes here)) are;
+      unplanned = λ f is. some-along {P = λ bytes. items ≡ bytes} {Q = IsRefusedRestartStep round_limit (failure.Plan f)} input (reported (failure.Plan f) (λ broken. broken) is) are;
+      unsaved = λ place is. some-along {P = λ bytes. items ≡ bytes} {Q = IsRefusedSaved round_limit place} input (λ bytes here. inr (reported (failure.Saved place) (λ broken. broken) is bytes here)) are;
       failures = fails-for R refusal e why;
     }
 
@@ -173,7 +173,7 @@ beside P (Some bytes) a p = (a, p)
 beside P None a p = tt
 
 -- by each word
-pub refused_by_run : (round_limit : Option ℕ) (input : Option (List ℕ)) (e : Failure) → ((f : JobError) → e ≡ failure.Document f → IfSome input (IsRefusedDocument f))
+pub refused_by_run : (round_limit : Option ℕ) (input : Option (List ℕ)) (e : ProgramError) → ((f : JobError) → e ≡ failure.Document f → IfSome input (IsRefusedDocument f))
     → ((f : PlanError) → e ≡ failure.Plan f → IfSome input (IsRefusedPlan round_limit f)) → ((place : SavedPlace) → e ≡ failure.Saved place → ⊥)
     → IsRunFailure e → failure_code e ≡ 3 → IfSome input (IsRefusedBy word.Run round_limit e)
 refused_by_run round_limit input (failure.Document f) document plan unsaved fails code = beside (IsRefusedDocument f) input fails (document f refl)
@@ -185,7 +185,7 @@ refused_by_run round_limit input failure.Workers document plan unsaved fails cod
 refused_by_run round_limit input (failure.Repository p) document plan unsaved fails code = absurd (omega (arith, code))
 refused_by_run round_limit input (failure.Usage f) document plan unsaved fails code = absurd fails
 
-pub refused_by_restart : (round_limit : Option ℕ) (input : Option (List ℕ)) (e : Failure)
+pub refused_by_restart : (round_limit : Option ℕ) (input : Option (List ℕ)) (e : ProgramError)
     → ((f : JobError) → e ≡ failure.Document f → IfSome input (IsRefusedRestart (restart_fault.Document f)))
     → ((f : PlanError) → e ≡ failure.Plan f → IfSome input (IsRefusedRestartStep round_limit (failure.Plan f)))
     → ((place : SavedPlace) → e ≡ failure.Saved place → IfSome input (IsRefusedSaved round_limit place))
@@ -199,7 +199,7 @@ refused_by_restart round_limit input failure.Workers document plan saved fails c
 refused_by_restart round_limit input (failure.Repository p) document plan saved fails code = absurd (omega (arith, code))
 refused_by_restart round_limit input (failure.Usage f) document plan saved fails code = absurd fails
 
-pub refused_by_plan : (round_limit : Option ℕ) (input : Option (List ℕ)) (e : Failure) → ((f : JobError) → e ≡ failure.Document f → IfSome input (IsRefusedLoad f))
+pub refused_by_plan : (round_limit : Option ℕ) (input : Option (List ℕ)) (e : ProgramError) → ((f : JobError) → e ≡ failure.Document f → IfSome input (IsRefusedLoad f))
     → IsDocumentFailure e → failure_code e ≡ 3 → IfSome input (IsRefusedBy word.Plan round_limit e)
 refused_by_plan round_limit input (failure.Document f) document fails code = beside (IsRefusedLoad f) input fails (document f refl)
 refused_by_plan round_limit input (failure.Plan f) document fails code = absurd fails
@@ -210,7 +210,7 @@ refused_by_plan round_limit input failure.Workers document fails code = absurd f
 refused_by_plan round_limit input (failure.Repository p) document fails code = absurd fails
 refused_by_plan round_limit input (failure.Usage f) document fails code = absurd fails
 
-pub refused_by_check : (round_limit : Option ℕ) (input : Option (List ℕ)) (e : Failure) → ((f : JobError) → e ≡ failure.Document f → IfSome input (IsRefusedClaim f))
+pub refused_by_check : (round_limit : Option ℕ) (input : Option (List ℕ)) (e : ProgramError) → ((f : JobError) → e ≡ failure.Document f → IfSome input (IsRefusedClaim f))
     → IsDocumentFailure e → failure_code e ≡ 3 → IfSome input (IsRefusedBy word.Check round_limit e)
 refused_by_check round_limit input (failure.Document f) document fails code = beside (IsRefusedClaim f) input fails (document f refl)
 refused_by_check round_limit input (failure.Plan f) document fails code = absurd fails

@@ -8,12 +8,12 @@ use Rattle.jb_plan.specs.Plans.{IsRunnable, IsWithin}
 use Rattle.jb_rules.specs.Rows.{range_of}
 use Rattle.jb_rules.specs.declared.row.Row.{Row}
 use Rattle.jb_artifacts.specs.Meaning.{ArtifactsMeaning}
-use Rattle.jb_chunk.specs.Standing.{TaskState}
+use Rattle.jb_chunk.specs.TaskState.{TaskState}
 use Rattle.jb_collect.specs.declared.calls.AnalyzerCall.{AnalyzerCall}
 use Rattle.jb_collect.specs.declared.calls.ReducerCall.{ReducerCall}
 use Rattle.jb_collect.specs.declared.calls.Status.{Status}
 use Rattle.jb_collect.specs.ReducerCalls.{calls_after, calls_before}
-use Rattle.jb_collect.specs.Taken.{calls_of, well}
+use Rattle.jb_collect.specs.AnsweredCalls.{calls_of, well}
 use Rattle.jb_repo.specs.declared.snapshot.Snapshot.{Snapshot}
 use Rattle.jb_saved.specs.SavedRows.{SavedRows}
 use Rattle.jb_cert.specs.declared.notes.PlanNote.{PlanNote}
@@ -25,9 +25,9 @@ use Rattle.jb_step.specs.Statuses.{status_of}
 use Rattle.jb_documents.specs.declared.restart.resume.Resume.{Resume}
 use Rattle.jb_documents.specs.declared.run.step_data.StepData.{StepData}
 use Rattle.jb_program.specs.declared.run.settings.StepSettings.{StepSettings}
-use Rattle.jb_program.specs.declared.streams.failure.Failure.{Failure}
-use Rattle.jb_program.specs.declared.streams.failure.Failure.TheVariants as failure
-use Rattle.jb_program.specs.inside.Below.{LawsOfTheCratesBelow}
+use Rattle.jb_program.specs.declared.streams.error.ProgramError.{ProgramError}
+use Rattle.jb_program.specs.declared.streams.error.ProgramError.TheVariants as failure
+use Rattle.jb_program.specs.inside.LowerLaws.{LowerCrateLaws}
 use Rattle.jb_program.specs.JobRun.{IsStepRefused, IsStepRun, kept_of, plan_for, plan_of_step, settings_of, setup_of, opening_artifacts_of}
 use Rattle.jb_program.specs.Refusals.{IsBreakOff}
 use Rattle.jb_program.specs.StepRun.{AreHeld, IsNotBegun, gone_on_from, outputs_of, partitions_left, rows_saved, setup_with, all_opening_artifacts}
@@ -94,7 +94,7 @@ few-rows prepared table rows setup are =
 -- ---- its report
 
 -- the report that is written has the partitions, plans, calls and status of a run
-pub step-run : LawsOfTheCratesBelow → (step : StepRecord) (supply : StepData) (round_limit : Option ℕ) (resume : Option Resume) (count : ℕ) (prepared : Setup) (records : List (List ℕ)) (outputs : List (List (List ℕ))) (settings : StepSettings)
+pub step-run : LowerCrateLaws → (step : StepRecord) (supply : StepData) (round_limit : Option ℕ) (resume : Option Resume) (count : ℕ) (prepared : Setup) (records : List (List ℕ)) (outputs : List (List (List ℕ))) (settings : StepSettings)
     (artifacts : List ArtifactsMeaning) (snapshot : Snapshot) (left : List (ℕ × ArtifactsMeaning)) (id : List ℕ) (status : Status) (plans : List PlanNote) (heard silent listened : List AnalyzerCall) (reducer begun recorded : List ReducerCall)
     → AreGiven step resume count prepared records outputs → records ≡ supply.records → settings ≡ settings_of step supply → AreKept settings → artifacts ≡ all_opening_artifacts settings records outputs prepared.rows
     → silent ≡ [] → IsRunOfStep (run_with prepared artifacts round_limit (map well silent) (map well listened) plans snapshot left)
@@ -123,7 +123,7 @@ step-run below step supply round_limit resume count prepared records outputs set
       accepted = prepares.accepted;
       id = id-is;
       partitions = rw (← whole) (partition-runs below step supply theirs s snapshot.rows.items left (tasks_left (first_tasks s (opening_artifacts_of step supply resume)) snapshot.rows.items left) keeps stand on led.rows led.came_back);
-      told = record {
+      reported = record {
         snapshot = snapshot;
         left = left;
         run = subst IsRunOfStep same-run run;
@@ -138,11 +138,11 @@ step-run below step supply round_limit resume count prepared records outputs set
 -- ---- why there is none
 
 -- an error that is handed on as it is
-pub handed-on : (r : Result Status Failure) (e : Failure) (P : Failure → Type 0) → IsErrAnd r (λ one. one ≡ e) → P e → IfErr r P
+pub handed-on : (r : Result Status ProgramError) (e : ProgramError) (P : ProgramError → Type 0) → IsErrAnd r (λ one. one ≡ e) → P e → IfErr r P
 handed-on (Ok status) e P is holds = tt
 handed-on (Err one) e P is holds = subst P (sym is) holds
 
-pub refused : (step : StepRecord) (supply : StepData) (resume : Option Resume) (saved : Option SavedRows) (count : ℕ) (e : Failure) → count ≡ length supply.records → saved ≡ rows_saved resume
+pub refused : (step : StepRecord) (supply : StepData) (resume : Option Resume) (saved : Option SavedRows) (count : ℕ) (e : ProgramError) → count ≡ length supply.records → saved ≡ rows_saved resume
     → (e ≡ failure.Memory) ⊎ IsNotBegun step count (plan_for step.spec count) saved e → IsBreakOff e ⊎ IsStepRefused step supply resume e
 refused step supply resume saved count e counted same (inl memory) = inl (subst IsBreakOff (sym memory) tt)
 refused step supply resume saved count e counted same (inr first) =

@@ -15,8 +15,8 @@ use Rattle.jb_collect.specs.declared.calls.Status.{Status}
 use Rattle.jb_collect.specs.declared.calls.Status.TheVariants as status
 use Rattle.jb_texts.specs.Report.{StepReport}
 use Rattle.jb_texts.specs.ReportTokens.{step_tokens}
-use Rattle.jb_program.specs.declared.streams.failure.Failure.{Failure}
-use Rattle.jb_program.specs.declared.streams.failure.Failure.TheVariants as failure
+use Rattle.jb_program.specs.declared.streams.error.ProgramError.{ProgramError}
+use Rattle.jb_program.specs.declared.streams.error.ProgramError.TheVariants as failure
 use Rattle.jb_program.specs.JobRun.{AreStepRuns, IsRefusedAtStep, IsStepRefused, IsStepRun, earlier, status_in}
 use Rattle.jb_program.specs.Refusals.{IsBreakOff}
 
@@ -80,13 +80,13 @@ other-last round_limit resume steps rest step supplies others supply report ende
 -- ---- why there is none
 
 -- a step is refused, or one behind it
-pub first-refused : (round_limit : Option ℕ) (resume : Option Resume) (steps rest : List StepRecord) (step : StepRecord) (supplies others : List StepData) (supply : StepData) (e : Failure)
+pub first-refused : (round_limit : Option ℕ) (resume : Option Resume) (steps rest : List StepRecord) (step : StepRecord) (supplies others : List StepData) (supply : StepData) (e : ProgramError)
     → steps ≡ step ∷ rest → supplies ≡ supply ∷ others → IsBreakOff e ⊎ IsStepRefused step supply resume e → IsBreakOff e ⊎ IsRefusedAtStep (zip steps supplies) round_limit resume e
 first-refused round_limit resume steps rest step supplies others supply e steps-are supplies-are (inl broken) = inl broken
 first-refused round_limit resume steps rest step supplies others supply e steps-are supplies-are (inr refused) =
     inr (subst (λ ss. IsRefusedAtStep (zip ss supplies) round_limit resume e) (sym steps-are) (subst (λ ds. IsRefusedAtStep (zip (step ∷ rest) ds) round_limit resume e) (sym supplies-are) (inl refused)))
 
-pub later-refused : (round_limit : Option ℕ) (resume : Option Resume) (steps rest : List StepRecord) (step : StepRecord) (supplies others : List StepData) (supply : StepData) (report : StepReport) (e : Failure)
+pub later-refused : (round_limit : Option ℕ) (resume : Option Resume) (steps rest : List StepRecord) (step : StepRecord) (supplies others : List StepData) (supply : StepData) (report : StepReport) (e : ProgramError)
     → steps ≡ step ∷ rest → supplies ≡ supply ∷ others → IsStepRun step supply round_limit resume report → report.status ≡ status.Completed
     → IsBreakOff e ⊎ IsRefusedAtStep (zip rest others) round_limit None e → IsBreakOff e ⊎ IsRefusedAtStep (zip steps supplies) round_limit resume e
 later-refused round_limit resume steps rest step supplies others supply report e steps-are supplies-are run completed (inl broken) = inl broken

@@ -17,8 +17,8 @@ use Rattle.jb_program.specs.RestartWord.{IsRefusedRestartStep, IsRefusedSaved, I
 use Rattle.jb_program.specs.PlanWord.{IsPlanned, IsPlanFront}
 use Rattle.jb_program.specs.CheckWord.{IsCheckAnswer, IsCheckFront}
 use Rattle.jb_program.specs.Refusals.{IsDocumentFault}
-use Rattle.jb_program.specs.declared.streams.failure.Failure.{Failure}
-use Rattle.jb_program.specs.declared.streams.failure.Failure.TheVariants as failure
+use Rattle.jb_program.specs.declared.streams.error.ProgramError.{ProgramError}
+use Rattle.jb_program.specs.declared.streams.error.ProgramError.TheVariants as failure
 
 -- The writer holds what the word makes of the document, and the status is the answer's.
 abbrev pub IsPerformedAnswer : Word → (round_limit : Option ℕ) → (input old new : Option (List ℕ)) → (status : ℕ) → Type 0
@@ -48,7 +48,7 @@ IsAnswerFront Version input old new = AppendsFront old new version_text
 
 -- The bytes are refused by this line, and the failure names why: their first fault, the first refused plan of a job, or what is
 -- refused of the saved rows.
-abbrev pub IsRefusedBy : Word → (round_limit : Option ℕ) → Failure → List ℕ → Type 0
+abbrev pub IsRefusedBy : Word → (round_limit : Option ℕ) → ProgramError → List ℕ → Type 0
 IsRefusedBy Run round_limit (failure.Document fault) bytes = IsDocumentFault fault × IsRefusedDocument fault bytes
 IsRefusedBy Run round_limit (failure.Plan fault) bytes = IsRefusedPlan round_limit fault bytes
 IsRefusedBy Restart round_limit (failure.Document fault) bytes = IsDocumentFault fault × IsRefusedRestart (restart_fault.Document fault) bytes

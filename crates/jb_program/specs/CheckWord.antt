@@ -11,16 +11,16 @@ use Rattle.jb_texts.specs.declared.judgement.Judgement.{Judgement}
 use Rattle.jb_texts.specs.Front.{AppendsFront}
 use Rattle.jb_texts.specs.CheckText.{check_status, check_text}
 
--- the claim's plan is lawful
+-- the claim's plan is valid (it has no fault)
 abbrev pub IsLawfulClaim : Claim → Type 0
 IsLawfulClaim claim = StandsForLawful claim.counts claim.threads claim.rounds
 
--- no lawful plan for these counts and threads has fewer rounds than this one, which is lawful
+-- this plan is valid, and no valid plan for these counts and threads has fewer rounds
 abbrev pub IsLeastClaim : Claim → Type 0
 IsLeastClaim claim = StandsForLeast claim.counts claim.threads claim.rounds
 
--- The fault found, if there is one, is the plan's first, and the certificate is judged for the plan's own rounds: where it
--- holds, no lawful plan has fewer.
+-- The fault found, if there is one, is the plan's first. The certificate is judged for the plan's own rounds: if it
+-- holds, no valid plan has fewer.
 pub record IsJudgementOf (claim : Claim) (found : Judgement) : Type 0 where
   pub lawful : found.fault ≡ None → IsLawfulClaim claim
   pub first : (fault : PlanFault) → found.fault ≡ Some fault → first_plan_fault claim.counts claim.threads claim.rounds ≡ Some fault

@@ -1,5 +1,5 @@
--- The command line of the program, and what it asks for (own choice: one word, of which `run` and `restart` take a number of
--- rounds, `help` with a word if need be, or one of the usual options for help and the version).
+-- The command line of the program, and what it asks for (own choice). It is one subcommand: `run` and `restart` take a number of
+-- rounds, and `help` a subcommand if need be. Or it is one of the usual options for help and the version.
 use Rattle.std.specs.Prelude.{◌≡◌, ◌≢◌, ◌⊎◌, ◌+◌, ◌<◌, ◌≤◌, ◌-◌, ◌*◌, ℕ, List, [], ◌∷◌, ◌++◌, length, take, nat_le, true, Option, Some, None, option_map, option_and_then, slice_get, codes, bytes_eq, string_bytes, if◌then◌else◌, IsSomeAnd}
 use Rattle.std.specs.Char.{is_ascii_digit}
 use Rattle.clap.specs.Words.{App, IsAmong, Row, Rule, Shape, Text, fault_of, first_of, new_app, new_rule, subcommand_of, with_rule, with_subcommand}
@@ -40,7 +40,7 @@ help_app = (with_rule (new_app (codes "help")) (new_rule (codes "word"))).top
 abbrev pub app : App
 app = with_subcommand (with_subcommand (with_subcommand (with_subcommand (with_subcommand program (limited_app (codes "run"))) (limited_app (codes "restart"))) (word_app (codes "plan"))) (word_app (codes "check"))) help_app
 
--- the words that do something with a document
+-- the names of the subcommands that do something with a document
 abbrev pub word_in : Text → Option Word
 word_in name = if bytes_eq name (codes "run") then Some Run
     else (if bytes_eq name (codes "restart") then Some Restart
@@ -49,7 +49,7 @@ word_in name = if bytes_eq name (codes "run") then Some Run
 
 -- ---- the number of rounds
 
--- a number, and decimal digits behind it, give a number up to the most
+-- a number, and decimal digits after it, give a number up to the most
 abbrev pub rounds_from : ℕ → Text → Option ℕ
 rounds_from n [] = if nat_le n max_rounds then Some n else None
 rounds_from n (digit ∷ digits) = if is_ascii_digit digit then rounds_from (n * 10 + (digit - 48)) digits else None
@@ -70,7 +70,7 @@ line_in word (Some text) = option_map (λ n. Perform (record { word = word; roun
 abbrev pub perform_in : Text → (given : Option Text) → Option Request
 perform_in name given = option_and_then (λ word. line_in word given) (word_in name)
 
--- `help` alone tells of the program, and with a word of that word
+-- `help` alone is about the program, and with a subcommand about that subcommand
 abbrev pub topic_in : Option Text → Option Request
 topic_in None = Some (Help None)
 topic_in (Some name) = option_map (λ word. Help (Some word)) (word_in name)
@@ -81,11 +81,11 @@ request_in None = None
 request_in (Some found) = if bytes_eq found.0 (codes "help") then topic_in (first_of (codes "word") found.1)
     else perform_in found.0 (first_of (codes "rounds") found.1)
 
--- `clap` takes the words, and its matches of them ask for this
+-- `clap` takes the arguments, and its matches of them ask for this
 abbrev pub AreTakenAs : List Text → Option Request → Type 0
 AreTakenAs words request = (fault_of app words ≡ []) × (request_in (subcommand_of app words) ≡ request)
 
--- `clap` ends reading the words for this
+-- `clap` ends reading the arguments for this
 abbrev pub EndIn : List Text → ErrorKind → Type 0
 EndIn words kind = IsAmong kind (fault_of app words)
 
@@ -93,28 +93,28 @@ EndIn words kind = IsAmong kind (fault_of app words)
 abbrev pub topic_at : List Text → Option Word
 topic_at words = option_and_then word_in (slice_get words 0)
 
--- What the words ask for: the word that `clap` takes; the help, by its option or by the word `help`; the version, by its option.
+-- What the arguments ask for: the subcommand that `clap` takes; the help, by its option or by `help`; the version, by its option.
 abbrev pub Asks : List Text → Request → Type 0
 Asks words (Perform line) = AreTakenAs words (Some (Perform line))
 Asks words (Help topic) = AreTakenAs words (Some (Help topic)) ⊎ (EndIn words DisplayHelp × (topic ≡ topic_at words))
 Asks words Version = EndIn words DisplayVersion
 
--- The words ask for nothing: `clap` takes them and finds nothing in them, or finds a mistake.
+-- The arguments ask for nothing: `clap` takes them and finds nothing in them, or finds a mistake.
 abbrev pub AreUnknown : List Text → Type 0
 AreUnknown words = AreTakenAs words None ⊎ ((kind : ErrorKind) × EndIn words kind × (kind ≢ DisplayHelp) × (kind ≢ DisplayVersion))
 
 -- ---- which word is wrong
 
--- They ask for something, or would if a number stood behind them.
+-- The arguments ask for something, or would with a number after them.
 abbrev pub CanBeCompleted : List Text → Type 0
 CanBeCompleted words = (request : Request) × (Asks words request ⊎ Asks (words ++ codes "0" ∷ []) request)
 
--- They ask for nothing, whether or not a number stands behind them.
+-- The arguments ask for nothing, with a number after them or without.
 abbrev pub CannotGoOn : List Text → Type 0
 CannotGoOn words = AreUnknown words × AreUnknown (words ++ codes "0" ∷ [])
 
--- The words ask for nothing, and this is the first one up to which no number behind them would help; where each of them can
--- go on, it is the last, whose number is missing.
+-- The arguments ask for nothing. This is the first one up to which no number after them would help. If there is no such
+-- argument, it is the last, whose number is missing.
 pub record IsWrongWord (words : List Text) (word : Text) : Type 0 where
   pub unknown : AreUnknown words
   pub place : ℕ
@@ -122,7 +122,7 @@ pub record IsWrongWord (words : List Text) (word : Text) : Type 0 where
   pub before : (n : ℕ) → 0 < n → n ≤ place → CanBeCompleted (take n words)
   pub up_to : CannotGoOn (take (place + 1) words) ⊎ (place + 1 ≡ length words)
 
--- what is wrong with the words of the process; there are none to speak of where one is no text
+-- what is wrong with the arguments of the process; they are `None` if one is no text
 abbrev pub IsWrong : UsageFault → Option (List Text) → Type 0
 IsWrong usage.NoWord words = words ≡ Some []
 IsWrong usage.NoText words = words ≡ None

@@ -5,15 +5,15 @@ use Rattle.jb_plan.specs.Texts.{error_text}
 use Rattle.jb_documents.specs.RestartDocument.{restart_fault_text}
 use Rattle.jb_documents.specs.declared.restart.fault.RestartFault.TheVariants.{Saved}
 use Rattle.jb_program.specs.UsageText.{usage_text}
-use Rattle.jb_program.specs.declared.streams.failure.Failure.{Failure}
-use Rattle.jb_program.specs.declared.streams.failure.Failure.TheVariants as failure
+use Rattle.jb_program.specs.declared.streams.error.ProgramError.{ProgramError}
+use Rattle.jb_program.specs.declared.streams.error.ProgramError.TheVariants as failure
 
 -- the first fault of the document, of a step's partition plan, or of the saved rows
 unfoldable pub refusal_line : List ℕ → List ℕ
 refusal_line fault = codes "refused: " ++ (fault ++ 10 ∷ [])
 
--- one line, and one more where the words are wrong
-abbrev pub failure_text : Failure → List ℕ
+-- one line, and one more if the arguments are wrong
+abbrev pub failure_text : ProgramError → List ℕ
 failure_text (failure.Usage fault) = usage_text fault
 failure_text (failure.Document fault) = refusal_line (fault_text fault)
 failure_text (failure.Plan error) = refusal_line (error_text error)

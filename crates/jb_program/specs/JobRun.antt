@@ -1,5 +1,5 @@
--- The run of a job, and its restart: its steps in order, up to the first that isn't completed (Jakarta Batch 2.1: the steps
--- of a job run one after another; that such a one ends the job, and all else here, is this project's choice).
+-- The run of a job, and its restart: its steps in order, up to the first that isn't completed. The steps of a job run one after
+-- another by Jakarta Batch 2.1. That such a step ends the job, and all else here, is this project's choice.
 use Rattle.std.specs.Prelude.{ℕ, ◌≡◌, ◌-◌, ◌+◌, ◌⊎◌, if◌then◌else◌, List, [], ◌∷◌, drop, length, slice_get, bytes_eq, Option, Some, None}
 use Rattle.std.specs.List.{zip}
 use Rattle.jb_job.specs.Records.{SpecRecord, StepRecord}
@@ -17,9 +17,9 @@ use Rattle.jb_collect.specs.declared.calls.Status.TheVariants.{Completed}
 use Rattle.jb_step.specs.preparing.Setup.{Setup, overrides, saved_faults}
 use Rattle.jb_texts.specs.Report.{Report, StepReport}
 use Rattle.jb_program.specs.declared.run.settings.StepSettings.{StepSettings}
-use Rattle.jb_program.specs.declared.streams.failure.Failure.{Failure}
+use Rattle.jb_program.specs.declared.streams.error.ProgramError.{ProgramError}
 use Rattle.jb_program.specs.PartitionRun.{ArePartitionRuns, begun_with}
-use Rattle.jb_program.specs.StepRun.{IsNotBegun, IsToldOf, gone_on_from, outputs_of, rows_saved, setup_with, all_opening_artifacts}
+use Rattle.jb_program.specs.StepRun.{IsNotBegun, IsReportedStep, gone_on_from, outputs_of, rows_saved, setup_with, all_opening_artifacts}
 
 -- ---- a step
 
@@ -40,11 +40,11 @@ plan_of_step step supply = plan_for step.spec (length supply.records)
 abbrev pub settings_of : StepRecord → StepData → StepSettings
 settings_of step supply = record { rules = step.rules; item_count = step.item_count; prefix = supply.prefix; drop = supply.drop; faults = supply.faults }
 
--- what it goes on from: what the run before left, unless its plan overrides that
+-- what it resumes from: what the run before left, unless its plan overrides that
 abbrev pub kept_of : StepRecord → Option Resume → Option Resume
 kept_of step resume = gone_on_from step.spec.replace resume
 
--- what it begins with, anew or from what the run before left
+-- what it begins with, from the start or from what the run before left
 abbrev pub setup_of : StepRecord → StepData → Option Resume → Setup
 setup_of step supply resume = setup_with step (plan_of_step step supply) (rows_saved (kept_of step resume))
 
@@ -52,23 +52,23 @@ setup_of step supply resume = setup_with step (plan_of_step step supply) (rows_s
 abbrev pub opening_artifacts_of : StepRecord → StepData → Option Resume → List ArtifactsMeaning
 opening_artifacts_of step supply resume = all_opening_artifacts (settings_of step supply) supply.records (outputs_of (kept_of step resume)) (setup_of step supply resume).rows
 
--- The step's plan can be run, nothing is wrong with the rows that it goes on from or overrides, and its report tells of a run of it: each
--- partition left what it leaves by itself, and the plans, what was heard, the reducer's calls and the status are the run's.
+-- The step's plan can be run, and nothing is wrong with the rows that it resumes from or overrides. Its report is of a run of it: each
+-- partition left what it leaves by itself. The plans, what was heard, the reducer's calls and the status are the run's.
 pub record IsStepRun (step : StepRecord) (supply : StepData) (round_limit : Option ℕ) (resume : Option Resume) (report : StepReport) : Type 0 where
   pub runnable : IsRunnable (length supply.records) (plan_of_step step supply)
   pub accepted : saved_faults step (length supply.records) step.spec.replace (rows_saved resume) ≡ []
   pub id : report.id ≡ step.id
   pub partitions : ArePartitionRuns (begun_with (settings_of step supply) supply.records (outputs_of (kept_of step resume))) 0 (setup_of step supply resume).rows report.partitions
-  pub told : IsToldOf (overrides step.spec.replace (rows_saved resume)) (setup_of step supply resume) (opening_artifacts_of step supply resume) (outputs_of (kept_of step resume)) round_limit report
+  pub reported : IsReportedStep (overrides step.spec.replace (rows_saved resume)) (setup_of step supply resume) (opening_artifacts_of step supply resume) (outputs_of (kept_of step resume)) round_limit report
 
--- The step is refused: its plan, or else what it would go on from, for the first fault.
-abbrev pub IsStepRefused : StepRecord → StepData → Option Resume → Failure → Type 0
+-- The step is refused: its plan, or else what it would resume from, for the first fault.
+abbrev pub IsStepRefused : StepRecord → StepData → Option Resume → ProgramError → Type 0
 IsStepRefused step supply resume e = IsNotBegun step (length supply.records) (plan_of_step step supply) (rows_saved resume) e
 
 -- ---- the steps
 
--- These are the reports of the steps, each of which comes with its data: each step runs that follows on completed ones
--- alone. The first may go on from what the run before left, the others begin anew; the limit is that of each step by itself.
+-- These are the reports of the steps, each of which comes with its data: a step runs exactly if all before it are completed.
+-- The first may resume from what the run before left, the others begin from the start. The limit is that of each step by itself.
 abbrev pub AreStepRuns : List (StepRecord × StepData) → (round_limit : Option ℕ) → Option Resume → List StepReport → Type 0
 AreStepRuns [] round_limit resume reports = reports ≡ []
 AreStepRuns ((step, supply) ∷ steps) round_limit resume [] = ⊥
@@ -78,7 +78,7 @@ AreStepRuns ((step, supply) ∷ steps) round_limit resume (report ∷ reports) =
     × ((report.status ≡ Completed → ⊥) → reports ≡ [])
 
 -- A step that follows on completed ones is refused so.
-abbrev pub IsRefusedAtStep : List (StepRecord × StepData) → (round_limit : Option ℕ) → Option Resume → Failure → Type 0
+abbrev pub IsRefusedAtStep : List (StepRecord × StepData) → (round_limit : Option ℕ) → Option Resume → ProgramError → Type 0
 IsRefusedAtStep [] round_limit resume e = ⊥
 IsRefusedAtStep ((step, supply) ∷ steps) round_limit resume e =
     IsStepRefused step supply resume e
@@ -98,7 +98,7 @@ pub record IsJobRun (document : Document) (round_limit : Option ℕ) (report : R
 
 -- ---- its restart
 
--- how many steps stand before the one of this id
+-- how many steps come before the one of this id
 abbrev pub earlier : (id : List ℕ) → List StepRecord → ℕ
 earlier id [] = 0
 earlier id (step ∷ steps) = if bytes_eq step.id id then 0 else earlier id steps + 1
@@ -107,14 +107,14 @@ earlier id (step ∷ steps) = if bytes_eq step.id id then 0 else earlier id step
 abbrev pub done_before : RestartDocument → ℕ
 done_before document = earlier document.resume.saved.step document.job.steps
 
--- The steps before the one that the saved rows name aren't run and aren't in the report; that one goes on from what the run
--- before left, and the later ones run as ever.
+-- The steps before the one that the saved rows name aren't run and aren't in the report. That one resumes from what the run
+-- before left, and the later ones run as usual.
 pub record IsRestartRun (document : RestartDocument) (round_limit : Option ℕ) (report : Report) : Type 0 where
   pub job : report.job ≡ document.job.id
   pub steps : AreStepRuns (drop (done_before document) (zip document.job.steps document.step_data)) round_limit (Some document.resume) report.steps
   pub ended : report.status ≡ status_in (slice_get report.steps (length report.steps - 1))
 
 -- A step that comes to its turn is refused so.
-abbrev pub IsRestartRefused : RestartDocument → (round_limit : Option ℕ) → Failure → Type 0
+abbrev pub IsRestartRefused : RestartDocument → (round_limit : Option ℕ) → ProgramError → Type 0
 IsRestartRefused document round_limit e =
     IsRefusedAtStep (drop (done_before document) (zip document.job.steps document.step_data)) round_limit (Some document.resume) e

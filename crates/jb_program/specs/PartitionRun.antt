@@ -1,4 +1,4 @@
--- What a partition of a step begins with, or goes on from, and what it leaves by itself (own choice: a partition is a range
+-- What a partition of a step begins with, or resumes from, and what it leaves by itself (own choice: a partition is a range
 -- of the step's records).
 use Rattle.std.specs.Prelude.{ℕ, ◌≡◌, ◌+◌, ◌-◌, ◌∷◌, ◌==◌, ◌&&◌, nat_le, nat_lt, Bool, true, List, [], map, slice_index_or, take, drop, filter, find, reverse, Option, Some, None}
 use Rattle.std.specs.Str.Lossy.{utf8_lossy}
@@ -15,7 +15,7 @@ use Rattle.jb_artifacts.specs.Collected.{count_text}
 use Rattle.jb_documents.specs.declared.run.faults.FaultKind.{FaultKind}
 use Rattle.jb_documents.specs.declared.run.faults.FaultKind.TheVariants.{Bad, Shaky}
 use Rattle.jb_documents.specs.declared.run.faults.PlannedFault.{PlannedFault}
-use Rattle.jb_chunk.specs.Standing.{TaskState, started}
+use Rattle.jb_chunk.specs.TaskState.{TaskState, started}
 use Rattle.jb_chunk.specs.Alone.{IsAlone, IsOnTheWay}
 use Rattle.jb_chunk.specs.Plain.{IsCalm, plain_outputs, plain_row}
 use Rattle.jb_texts.specs.Report.{PartitionReport}
@@ -43,7 +43,7 @@ fault_plans faults = λ k. fault_plan_by (find (λ fault. k == fault.number) (re
 abbrev pub is_of_range : Range → PlannedFault → Bool
 is_of_range range fault = nat_le range.lo fault.number && nat_lt fault.number range.hi
 
--- An artifact gets the plans of its own range's records.
+-- An artifact gets the plans of the records of its range.
 unfoldable pub plans_in : List PlannedFault → Range → FaultTable
 plans_in faults range = fault_plans (filter (is_of_range range) faults)
 
@@ -63,11 +63,11 @@ opening_artifacts step records held range = record {
 abbrev pub held_by : (outputs : List (List (List ℕ))) → (partition : ℕ) → List (List ℕ)
 held_by outputs partition = slice_index_or outputs partition []
 
--- what a partition with this row works with: it has the records of its own range
+-- what a partition with this row works with: it has the records of its range
 abbrev pub opening_artifacts_for : StepSettings → (records : List (List ℕ)) → (outputs : List (List (List ℕ))) → ℕ × Row → ArtifactsMeaning
 opening_artifacts_for step records outputs n = opening_artifacts step (records_in records (range_of n.1)) (held_by outputs n.0) (range_of n.1)
 
--- The task of a partition that begins with this row, or goes on from it: what its writer holds past the results that were
+-- The task of a partition that begins with this row, or resumes from it: what its writer holds past the results that were
 -- committed is cut off.
 abbrev pub begun_with : StepSettings → (records : List (List ℕ)) → (outputs : List (List (List ℕ))) → (partition : ℕ) → Row → TaskState
 begun_with step records outputs partition row = started partition row step.rules step.item_count (opening_artifacts_for step records outputs (partition, row))
@@ -78,7 +78,7 @@ begun_with step records outputs partition row = started partition row step.rules
 abbrev pub report_of : TaskState → PartitionReport
 report_of task = record { row = task.row; outputs = map utf8_lossy task.artifacts.writer.written }
 
--- what is left where no call fails: behind what was committed, the answers on all other records, however they are cut into
+-- what is left if no call fails: after what was committed, the answers on all other records, however they are cut into
 -- chunks
 abbrev pub plain_report : TaskState → PartitionReport
 plain_report begun = record { row = plain_row begun; outputs = map utf8_lossy (plain_outputs begun) }

@@ -8,8 +8,8 @@ use Rattle.jb_documents.specs.RestartDocument.{IsRestartText, IsRefusedRestart}
 use Rattle.jb_texts.specs.Front.{AppendsFront}
 use Rattle.jb_texts.specs.Report.{Report, report_text}
 use Rattle.jb_texts.specs.Statuses.{status_code}
-use Rattle.jb_program.specs.declared.streams.failure.Failure.{Failure}
-use Rattle.jb_program.specs.declared.streams.failure.Failure.TheVariants as failure
+use Rattle.jb_program.specs.declared.streams.error.ProgramError.{ProgramError}
+use Rattle.jb_program.specs.declared.streams.error.ProgramError.TheVariants as failure
 use Rattle.jb_program.specs.JobRun.{IsRestartRun, IsRestartRefused}
 
 -- the report is what the restart of the bytes' document leaves, each step in no more rounds than the limit
@@ -30,7 +30,7 @@ abbrev pub IsRestartFront : (round_limit : Option ℕ) → (input old new : Opti
 IsRestartFront round_limit input old new = (report : Report) × AppendsFront old new (report_text report) × IfSome input (IsRestartReportOf round_limit report)
 
 -- A step of the bytes' document that comes to its turn is refused for this, its plan or the saved rows.
-pub record IsRefusedRestartStep (round_limit : Option ℕ) (e : Failure) (bytes : List ℕ) : Type 0 where
+pub record IsRefusedRestartStep (round_limit : Option ℕ) (e : ProgramError) (bytes : List ℕ) : Type 0 where
   pub document : RestartDocument
   pub read : IsRestartText bytes document
   pub refused : IsRestartRefused document round_limit e

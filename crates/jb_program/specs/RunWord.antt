@@ -8,7 +8,7 @@ use Rattle.jb_documents.specs.RunDocument.{IsDocument}
 use Rattle.jb_texts.specs.Front.{AppendsFront}
 use Rattle.jb_texts.specs.Report.{Report, report_text}
 use Rattle.jb_texts.specs.Statuses.{status_code}
-use Rattle.jb_program.specs.declared.streams.failure.Failure.TheVariants as failure
+use Rattle.jb_program.specs.declared.streams.error.ProgramError.TheVariants as failure
 use Rattle.jb_program.specs.JobRun.{IsJobRun, IsRefusedAtStep}
 
 -- the report is what the run of the bytes' document leaves, each step in no more rounds than the limit

@@ -1,4 +1,4 @@
--- The run of a step: what it begins with, or goes on from, and what its report tells of it.
+-- The run of a step: what it begins with, or resumes from, and what its report says of it.
 use Rattle.std.specs.Prelude.{ℕ, ◌≡◌, ◌==◌, Bool, true, false, List, [], map, take, find, slice_get, Option, Some, None, Ok, is_none}
 use Rattle.std.specs.List.{enumerate_from}
 use Rattle.std.specs.Str.Lossy.{utf8_lossy}
@@ -11,7 +11,7 @@ use Rattle.jb_rules.specs.declared.row.Row.{Row}
 use Rattle.jb_artifacts.specs.Meaning.{ArtifactsMeaning}
 use Rattle.jb_repo.specs.declared.snapshot.Snapshot.{Snapshot}
 use Rattle.jb_collect.specs.ReducerCalls.{reducer_calls}
-use Rattle.jb_collect.specs.Taken.{well}
+use Rattle.jb_collect.specs.AnsweredCalls.{well}
 use Rattle.jb_saved.specs.SavedRows.{SavedRows}
 use Rattle.jb_step.specs.Answers.{IsRunOfStep, StepRun}
 use Rattle.jb_step.specs.Headline.{Headline}
@@ -21,8 +21,8 @@ use Rattle.jb_documents.specs.ResumeFields.{held_outputs_at}
 use Rattle.jb_documents.specs.declared.restart.resume.Resume.{Resume}
 use Rattle.jb_texts.specs.Report.{PartitionReport, StepReport}
 use Rattle.jb_program.specs.declared.run.settings.StepSettings.{StepSettings}
-use Rattle.jb_program.specs.declared.streams.failure.Failure.{Failure}
-use Rattle.jb_program.specs.declared.streams.failure.Failure.TheVariants as failure
+use Rattle.jb_program.specs.declared.streams.error.ProgramError.{ProgramError}
+use Rattle.jb_program.specs.declared.streams.error.ProgramError.TheVariants as failure
 use Rattle.jb_program.specs.PartitionRun.{held_by, opening_artifacts_for}
 
 -- ---- what it goes on from
@@ -32,7 +32,7 @@ abbrev pub rows_saved : Option Resume → Option SavedRows
 rows_saved None = None
 rows_saved (Some resume) = Some resume.saved
 
--- what a step goes on from: nothing where its plan overrides it
+-- what a step resumes from: nothing if its plan overrides it
 abbrev pub gone_on_from : (replace : Bool) → Option Resume → Option Resume
 gone_on_from true resume = None
 gone_on_from false resume = resume
@@ -58,8 +58,8 @@ setup_with step plan saved = record {
   is_fresh = is_none saved;
 }
 
--- The step isn't begun: its plan has a first fault, or it can be run and the saved rows have one.
-abbrev pub IsNotBegun : StepRecord → (records : ℕ) → PartitionPlan → Option SavedRows → Failure → Type 0
+-- The step isn't started: its plan has a first fault, or it can be run and the saved rows have one.
+abbrev pub IsNotBegun : StepRecord → (records : ℕ) → PartitionPlan → Option SavedRows → ProgramError → Type 0
 IsNotBegun step records plan saved (failure.Plan fault) = IsFirst fault (plan_errors records plan)
 IsNotBegun step records plan saved (failure.Saved place) =
     IsRunnable records plan × (slice_get (saved_faults step records plan.replace saved) 0 ≡ Some place)
@@ -69,7 +69,7 @@ IsNotBegun step records plan saved _ = ⊥
 abbrev pub all_opening_artifacts : StepSettings → (records : List (List ℕ)) → (outputs : List (List (List ℕ))) → List Row → List ArtifactsMeaning
 all_opening_artifacts settings records outputs rows = map (opening_artifacts_for settings records outputs) (unfinished rows)
 
--- ---- what its report tells
+-- ---- what its report says
 
 -- the results in a writer as texts, or those that were committed before where the partition needed none
 abbrev pub outputs_in : (before : List (List ℕ)) → Option (ℕ × ArtifactsMeaning) → List (List ℕ)
@@ -85,9 +85,9 @@ abbrev pub partitions_left : (outputs : List (List (List ℕ))) → List Row →
 partitions_left outputs rows left =
     map (λ n. record { row = n.1; outputs = outputs_in (committed_of outputs n) (find (λ one. one.0 == n.0) left) }) (enumerate_from 0 rows)
 
--- the run of which the report tells, with what else it left
-abbrev pub run_told : Setup → List ArtifactsMeaning → (round_limit : Option ℕ) → StepReport → Snapshot → (left : List (ℕ × ArtifactsMeaning)) → StepRun
-run_told s artifacts round_limit report snapshot left = record {
+-- the run that the report describes, with what else it left
+abbrev pub reported_run : Setup → List ArtifactsMeaning → (round_limit : Option ℕ) → StepReport → Snapshot → (left : List (ℕ × ArtifactsMeaning)) → StepRun
+reported_run s artifacts round_limit report snapshot left = record {
   setup = s;
   artifacts = artifacts;
   round_limit = round_limit;
@@ -98,15 +98,15 @@ run_told s artifacts round_limit report snapshot left = record {
   left = left;
 }
 
--- Some run of the step in no more rounds than the limit: the report has its partitions, its plans and its status, all that
--- its analyzer heard, and all calls of its reducer, the rollback of an earlier run's results among them where these are
--- discarded. Each call of the two was answered well. Of the run the headline holds: each plan in the report has exactly the
--- chunks not yet committed then, in the fewest rounds of all lawful plans, with its certificate.
-pub record IsToldOf (overrides : Bool) (s : Setup) (artifacts : List ArtifactsMeaning) (outputs : List (List (List ℕ))) (round_limit : Option ℕ) (report : StepReport) : Type 0 where
+-- Some run of the step in no more rounds than the limit: the report has its partitions, its plans and its status, and all that
+-- its analyzer heard. It has all calls of its reducer too: if an earlier run's results are discarded, their rollback is one of
+-- them. Each call of the two was answered well. The headline holds of the run: each plan in the report has exactly the
+-- chunks not yet committed then, in the fewest rounds of all valid plans, with its certificate.
+pub record IsReportedStep (overrides : Bool) (s : Setup) (artifacts : List ArtifactsMeaning) (outputs : List (List (List ℕ))) (round_limit : Option ℕ) (report : StepReport) : Type 0 where
   pub snapshot : Snapshot
   pub left : List (ℕ × ArtifactsMeaning)
-  pub run : IsRunOfStep (run_told s artifacts round_limit report snapshot left)
-  pub headline : Headline (run_told s artifacts round_limit report snapshot left)
+  pub run : IsRunOfStep (reported_run s artifacts round_limit report snapshot left)
+  pub headline : Headline (reported_run s artifacts round_limit report snapshot left)
   pub partitions : report.partitions ≡ partitions_left outputs snapshot.rows.items left
   pub status : report.status ≡ status_of snapshot.rows.items false
   pub reducer : report.reducer ≡ reducer_calls true overrides (status_of snapshot.rows.items false) false

@@ -1,9 +1,9 @@
--- What is written where the words are wrong (own choice).
+-- What is written if the arguments are wrong (own choice).
 use Rattle.std.specs.Prelude.{ℕ, List, ◌++◌, codes, string_bytes}
 use Rattle.jb_program.specs.declared.words.fault.UsageFault.{UsageFault}
 use Rattle.jb_program.specs.declared.words.fault.UsageFault.TheVariants as fault
 
--- where to find which words are right
+-- where to find which arguments are right
 unfoldable pub advice : List ℕ
 advice = codes "batchrun --help says which words there are\n"
 

@@ -1,7 +1,7 @@
 //! The program over any arguments, any reader and any two writers: it runs a batch job, plans rounds of chunks or checks such
 //! a plan, from a JSON document. `batchrun` hands it the process's own.
 //!
-//! - `words`: the command line, and what each of its words does.
+//! - `words`: the command line, and what each subcommand does.
 //! - `run`: the run of a job, its steps and their partitions.
 //! - `streams`: the document's bytes, and why there is no answer.
 //! - `program`: what the arguments ask, done, and the exit status.

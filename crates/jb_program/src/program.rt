@@ -4,11 +4,11 @@ ghost use Rattle.std.specs.Prelude.{◌≡◌, ◌<◌, ◌≤◌, map, Some, If
 ghost use Rattle.std.specs.Io.KnownBytes.{Keeps};
 ghost use Rattle.jb_program.specs.declared.words.request.Request.{Request};
 ghost use Rattle.jb_program.specs.Answer.{IsAnswer};
-ghost use Rattle.jb_program.specs.Failures.{HasFailed, IsAsked, IsFailureTold};
+ghost use Rattle.jb_program.specs.Failures.{HasFailed, IsAsked, IsFailureReported};
 ghost use Rattle.jb_program.specs.ProcessWords.{process_words};
 ghost use Rattle.jb_program.specs.Statuses.{failure_code};
 
-use crate::streams::{Failure, write_failure};
+use crate::streams::{ProgramError, write_failure};
 use crate::words::{
     Request, Word, arguments, line_of, restart, run, run_check, run_plan, words_after_name,
     write_help, write_version,
@@ -20,14 +20,14 @@ use std::io::{Read, Write};
 use std::sync::Wait;
 use std::thread::Threads;
 
-/// Does what the words ask.
+/// Does what the arguments ask.
 fn answer_words<'a, T: Threads + Wait + Sync, R: Read, W: Write>(
     rt: &T,
     alloc: Global,
     words: &'a [&'a str],
     reader: &mut R,
     writer: &mut W,
-) -> Result<u8, Failure>
+) -> Result<u8, ProgramError>
     ensures answered { IfOk result (λ status. (request : Request) × IsAsked (Some (map (λ w. w.now) words.now)) request × IsAnswer request (R.remaining reader.old) (W.contents writer.old) (W.contents writer.new) status) }
     ensures status { IfOk result (λ status. status < 3) }
     ensures failed { IfErr result (HasFailed (Some (map (λ w. w.now) words.now)) (R.remaining reader.old) (W.contents writer.old) (W.contents writer.new)) }
@@ -52,7 +52,7 @@ fn answer<T: Threads + Wait + Sync, R: Read, W: Write>(
     args: io::Result<Args>,
     reader: &mut R,
     writer: &mut W,
-) -> Result<u8, Failure>
+) -> Result<u8, ProgramError>
     ensures answered { IfOk result (λ status. (request : Request) × IsAsked (process_words args) request × IsAnswer request (R.remaining reader.old) (W.contents writer.old) (W.contents writer.new) status) }
     ensures status { IfOk result (λ status. status < 3) }
     ensures failed { IfErr result (HasFailed (process_words args) (R.remaining reader.old) (W.contents writer.old) (W.contents writer.new)) }
@@ -62,40 +62,42 @@ fn answer<T: Threads + Wait + Sync, R: Read, W: Write>(
     answer_words(rt, alloc, &words, reader, writer)
 }
 
-/// The exit status of a failure that was to be told: its own, if its text was written; else a stream has failed.
-fn told(failure: &Failure, written: io::Result<()>) -> u8
+/// The exit status of a failure that was to be reported: its own, if its text was written; else a stream has failed.
+fn exit_code_of(failure: &ProgramError, written: io::Result<()>) -> u8
     ensures whole { OnOk written (result ≡ failure_code failure.now) }
-    ensures cut { OnErr written (result ≡ failure_code Failure.Stream) }
+    ensures cut { OnErr written (result ≡ failure_code ProgramError.Stream) }
 {
     match written {
         Ok(()) => failure.status(),
-        Err(_) => Failure::Stream.status(),
+        Err(_) => ProgramError::Stream.status(),
     }
 }
 
 /// The exit status of an answer, or of a failure, which is written to the fault writer.
-fn status_of<F: Write>(answer: Result<u8, Failure>, fault_writer: &mut F) -> u8
+fn status_of<F: Write>(answer: Result<u8, ProgramError>, fault_writer: &mut F) -> u8
     ensures answered { IfOk answer (λ status. result ≡ status) }
     ensures quiet { OnOk answer (Keeps (F.contents fault_writer.old) (F.contents fault_writer.new)) }
-    ensures failed { IfErr answer (λ failure. IsFailureTold failure (F.contents fault_writer.old) (F.contents fault_writer.new) result) }
+    ensures failed { IfErr answer (λ failure. IsFailureReported failure (F.contents fault_writer.old) (F.contents fault_writer.new) result) }
 {
     match answer {
         Ok(status) => status,
         Err(failure) => {
             let written = write_failure(&failure, fault_writer);
-            told(&failure, written)
+            exit_code_of(&failure, written)
         }
     }
 }
 
-/// Does what the process's arguments ask, and gives the exit status: 0, 1 and 2 for an answer, which the writer then holds; 3
-/// where the document, a step's partition plan or its saved rows are refused, by its first fault; 4 where there is no memory or
-/// no worker, the repository isn't the step's own, or a stream fails; 5 where the words ask for nothing. What is wrong is written
-/// to the fault writer.
+/// Does what the process's arguments ask, and gives the exit status. What is wrong is written to the fault writer.
 ///
-/// A report tells of runs of which the headline of `jb_step` holds (`IsToldOf.headline`): each plan in it had exactly the chunks not
-/// yet committed, in the fewest rounds of all lawful plans, with its certificate; and a step that isn't stopped has left each
-/// partition where it ends alone.
+/// - 0, 1 and 2: an answer, which the writer then holds.
+/// - 3: the document, a step's partition plan or its saved rows are refused, by its first fault.
+/// - 4: there is no memory or no worker, the repository isn't the step's own, or a stream fails.
+/// - 5: the arguments ask for nothing.
+///
+/// A report is of runs of which the headline of `jb_step` holds (`IsReportedStep.headline`). Each plan in it had exactly the chunks not
+/// yet committed, in the fewest rounds of all valid plans, with its certificate. A step that isn't stopped has left each partition
+/// where it ends alone.
 pub fn perform<T: Threads + Wait + Sync, R: Read, W: Write, F: Write>(
     rt: &T,
     alloc: Global,
@@ -107,7 +109,7 @@ pub fn perform<T: Threads + Wait + Sync, R: Read, W: Write, F: Write>(
     ensures answered { result < 3 → (request : Request) × IsAsked (process_words args) request × IsAnswer request (R.remaining reader.old) (W.contents writer.old) (W.contents writer.new) result }
     ensures status { result ≤ 5 }
     ensures quiet { result < 3 → Keeps (F.contents fault_writer.old) (F.contents fault_writer.new) }
-    ensures failed { 3 ≤ result → (failure : Failure) × HasFailed (process_words args) (R.remaining reader.old) (W.contents writer.old) (W.contents writer.new) failure × IsFailureTold failure (F.contents fault_writer.old) (F.contents fault_writer.new) result }
+    ensures failed { 3 ≤ result → (failure : ProgramError) × HasFailed (process_words args) (R.remaining reader.old) (W.contents writer.old) (W.contents writer.new) failure × IsFailureReported failure (F.contents fault_writer.old) (F.contents fault_writer.new) result }
 {
     let answer = answer(rt, alloc, args, reader, writer);
     status_of(answer, fault_writer)

@@ -1,10 +1,10 @@
 //! What is read, and what is written where there is no answer.
 
-mod failure;
+mod error;
 mod input;
 mod lines;
-mod telling;
+mod writing;
 
-pub use failure::Failure;
+pub use error::ProgramError;
 pub use input::read_all;
-pub use telling::write_failure;
+pub use writing::write_failure;

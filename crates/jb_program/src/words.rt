@@ -1,10 +1,10 @@
-//! The command line, and what each of its words does with a document.
+//! The command line, and what each subcommand does with a document.
 //!
-//! - `process`: the words behind the program's name.
+//! - `process`: the arguments after the program's name.
 //! - `request`, `line`: what they ask for.
 //! - `fault`: why they ask for nothing.
 //! - `help`: what the program says of itself.
-//! - `run`, `restart`, `plan`, `check`: the words.
+//! - `run`, `restart`, `plan`, `check`: the subcommands.
 
 mod check;
 mod fault;

@@ -1,4 +1,4 @@
--- Lines of JSON (jsonlines.org: each line is a JSON text of its own, in UTF-8).
+-- Lines of JSON (jsonlines.org: each line is a separate JSON text, in UTF-8).
 use Rattle.std.specs.Prelude.{ℕ, ◌≡◌, List, Some}
 use Rattle.std.specs.Str.{IsUtf8}
 use Rattle.serde_json.specs.Data.{Data}

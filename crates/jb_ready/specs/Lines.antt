@@ -8,11 +8,11 @@ line_feed = 10
 abbrev pub carriage_return : ℕ
 carriage_return = 13
 
--- the text less this byte at its end, if it has one there
+-- the text without this byte at its end, if it ends with it
 abbrev pub without_last : (byte : ℕ) → List ℕ → List ℕ
 without_last byte text = if ends_with nat_eq text (byte ∷ []) then take (length text - 1) text else text
 
--- the parts between line feeds, each less a carriage return at its end
+-- the parts between line feeds, each without a carriage return at its end
 abbrev pub parts : List ℕ → List (List ℕ)
 parts text = map (without_last carriage_return) (slice_split (λ b. b == line_feed) text)
 

@@ -6,7 +6,7 @@ use Rattle.jb_ready.specs.declared.notes.Note.{Note}
 use Rattle.jb_ready.specs.declared.notes.WriteNote.{WriteNote}
 use Rattle.jb_base.specs.declared.artifact_error.ArtifactError.TheVariants.{Fault, Memory}
 
--- the notes that were kept, the first one first, and the number of those that were lost for want of memory
+-- the notes that were stored, the first one first, and the number of those that were lost because memory ran out
 pub record NotesOf (N : Type 0) : Type 0 where
   pub kept : List N
   pub lost : ℕ
@@ -15,7 +15,7 @@ pub record NotesOf (N : Type 0) : Type 0 where
 abbrev pub HasLost : {N : Type 0} → (old new : NotesOf N) → Type 0
 HasLost old new = new ≡ record old { lost = min (old.lost + 1) (2 ^ 64 - 1) }
 
--- one more note, of which this holds, is kept behind the others, or it is lost
+-- one more note, of which this holds, is appended to the others, or it is lost
 abbrev pub HasNoted : {N : Type 0} → (N → Type 0) → (old new : NotesOf N) → Type 0
 HasNoted {N} Is old new = ((note : N) × Is note × (new ≡ record old { kept = old.kept ++ note ∷ [] })) ⊎ HasLost old new
 

@@ -11,8 +11,8 @@ use jb_base::PackedList;
 use serde_json::Value;
 use std::alloc::{AllocError, Global};
 
-/// The records of a text in JSON Lines (jsonlines.org): each line, as it stands there without its end, if it is a JSON text.
-/// Else the first that is none is refused; an empty line is none.
+/// The records of a text in JSON Lines (jsonlines.org): its lines, unchanged but without their ends. Each must be a JSON
+/// text: the first that isn't one is refused. An empty line isn't one.
 pub fn records_of(alloc: Global, text: &[u8]) -> Result<PackedList, RecordsError>
     ensures ok { IfOk result (λ records. (records ≡ lines_in text.now) × AreAll IsJson (lines_in text.now)) }
     ensures refused { IfRefused result (λ number line. IsFirstRefused IsJson (lines_in text.now) number × (line ≡ number + 1)) }
@@ -22,7 +22,7 @@ pub fn records_of(alloc: Global, text: &[u8]) -> Result<PackedList, RecordsError
     Ok(records)
 }
 
-/// Refuses the first of these lines that is no JSON text, if there is one.
+/// Refuses the first of these lines that isn't a JSON text, if there is one.
 fn refuse_other_than_json(alloc: Global, lines: &PackedList) -> Result<(), RecordsError>
     ensures ok { OnOk result (AreAll IsJson lines.now) }
     ensures refused { IfRefused result (λ number line. IsFirstRefused IsJson lines.now number × (line ≡ number + 1)) }

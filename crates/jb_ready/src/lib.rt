@@ -1,8 +1,8 @@
-//! Ready parts for a job of one's own, above `jb_artifacts`.
+//! Ready parts for your own job, above `jb_artifacts`.
 //!
-//! - `notes`, `noting_reader`, `noting_processor`, `noting_writer`: artifacts round others, which note the faults that
+//! - `notes`, `noting_reader`, `noting_processor`, `noting_writer`: artifacts around others; they note the faults that
 //!   those answer.
-//! - `numbered`: a reader over a table of records whose numbers may be too many.
+//! - `numbered`: a reader over a table of records whose numbers may be too large.
 //! - `lines`, `json_lines`: the records of a text.
 //! - `records_error`: why there are no records.
 #![tactic(auto)]

@@ -6,8 +6,8 @@ ghost use Rattle.jb_ready.specs.Lines.{lines, parts, without_last};
 use jb_base::PackedList;
 use std::alloc::{AllocError, Global};
 
-/// The records of a text whose lines are its records, without their ends: a line ends at a line feed, or a carriage
-/// return and a line feed. No line is refused.
+/// The records of a text: its lines, without their ends. A line ends at a line feed, or at a carriage return and a line
+/// feed. No line is refused.
 pub fn records_of(alloc: Global, text: &[u8]) -> Result<PackedList, AllocError>
     ensures { IfOk result (λ records. records ≡ lines text.now) }
 {
@@ -35,7 +35,7 @@ fn parts_of(alloc: Global, text: &[u8]) -> Result<Vec<&[u8]>, AllocError>
         .collect(alloc)
 }
 
-/// The text less this byte at its end, if it has one there.
+/// The text without this byte at its end, if it ends with it.
 fn without_last(byte: u8, text: &[u8]) -> &[u8]
     ensures { result.now ≡ without_last byte text.now }
 {

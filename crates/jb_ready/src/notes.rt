@@ -47,21 +47,21 @@ impl<N> Notes<N> {
         }
     }
 
-    /// The notes that were kept.
+    /// The notes that were stored.
     pub fn kept(&self) -> &[N]
         ensures { result.now ≡ self.now.kept }
     {
         self.kept.as_slice()
     }
 
-    /// How many notes were lost, 2^64 - 1 standing for any number from there on.
+    /// How many notes were lost. 2^64 - 1 means that many or more.
     pub fn lost(&self) -> u64
         ensures { result ≡ self.now.lost }
     {
         self.lost
     }
 
-    /// One more note. It is kept, or lost for want of memory.
+    /// One more note. It is stored, or lost if memory runs out.
     pub fn note(&mut self, note: N)
     where
         N: Drop,

@@ -1,4 +1,4 @@
-//! A reader over a table of records whose numbers may be too many.
+//! A reader over a table of records whose numbers may be too large.
 
 ghost use Rattle.std.specs.Prelude.{◌≡◌, ◌≤◌, ◌+◌, ◌^◌, length, IfErr, IfOk};
 ghost use Rattle.jb_artifacts.specs.Faults.{plans_of};
@@ -9,8 +9,8 @@ use jb_artifacts::{FaultPlans, ItemReader, TableReader};
 use jb_base::PackedList;
 use std::alloc::Global;
 
-/// `TableReader::new` where the caller doesn't know that the records' numbers are below 2^64: else the answer is
-/// `Numbers`. Takes no memory.
+/// `TableReader::new` for a caller that doesn't know whether the number after the last record's is below 2^64. If it
+/// isn't, the answer is `Numbers`. Takes no memory.
 pub fn table_reader(
     alloc: Global,
     first: u64,

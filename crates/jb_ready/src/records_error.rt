@@ -9,11 +9,11 @@ use thiserror::Error;
 /// Why there are no records, or no reader of them.
 #[derive(Clone, Copy, Debug, PartialEq, Eq, Error)]
 pub enum RecordsError {
-    /// A record of the text is refused: the record of this number, the first being 0, that begins in this line, the
-    /// first being 1.
+    /// A record of the text is refused. `number` is its number, counted from 0, and `line` is the line where it begins,
+    /// counted from 1.
     #[error("line {line}: record {number} can't be read")]
     Refused { number: u64, line: u64 },
-    /// The last record would have a number of 2^64 or more.
+    /// The number after the last record's would be 2^64 or more.
     #[error("the records' numbers go past 64 bits")]
     Numbers,
     /// There was no memory.

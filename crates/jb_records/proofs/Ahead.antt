@@ -11,7 +11,7 @@ use Rattle.jb_chunk.specs.declared.outcome.Outcome.TheVariants.{Committed, Rolle
 use Rattle.jb_chunk.specs.Alone.{IsOnTheWay, IsRunOf}
 use Rattle.jb_chunk.specs.Attempt.{AttemptEnd, again_of, block_of, end_of, ending_by}
 use Rattle.jb_chunk.specs.Laws.{RepeatsAreRetries, TasksStandAtCheckpoints, WaysJoin}
-use Rattle.jb_chunk.specs.Standing.{IsReady, TaskState}
+use Rattle.jb_chunk.specs.TaskState.{IsReady, TaskState}
 use Rattle.jb_step.specs.Alone.{AreOnTheWay}
 use Rattle.jb_step.specs.rounds.PlanLaws.{AreTasksOf}
 use Rattle.jb_step.specs.preparing.Setup.{Setup, row_now}

@@ -12,7 +12,7 @@ use Rattle.jb_base.specs.declared.class.ClassId.{ClassId}
 use Rattle.jb_chunk.specs.Attempt.{block_of, end_at, end_by, end_of, ending_by, fault_at, settled_at, skips_at}
 use Rattle.jb_chunk.specs.Block.{choice_at, count_of, entry, entry_by, is_skip, settles, settling, skips_before, stops}
 use Rattle.jb_chunk.specs.Entries.{fault_in, is_fault}
-use Rattle.jb_chunk.specs.Standing.{TaskState}
+use Rattle.jb_chunk.specs.TaskState.{TaskState}
 use Rattle.jb_chunk.specs.declared.outcome.Outcome.{Outcome}
 use Rattle.jb_chunk.specs.declared.outcome.Outcome.TheVariants.{Committed, Rolled, Failed, NoMemory}
 use Rattle.jb_chunk.proofs.RecordRepeats.{unfound}

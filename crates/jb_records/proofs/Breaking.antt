@@ -1,4 +1,4 @@
--- Why a stretch of a run that stays in memory breaks off.
+-- Why a interval of a run that stays in memory breaks off.
 use Rattle.std.proofs.Common.{◌≡◌, ℕ, ◌≤◌, Bool, true, false, not, List, [], ◌∷◌, ◌++◌, length, Option, Some, None, refl, ap, ap₂, arith}
 use Rattle.std.proofs.lemmas.Bool.Decides.{nat_tests}
 use Rattle.std.proofs.lemmas.Slice.Eq.{bytes_eq-Decides}
@@ -22,9 +22,9 @@ use Rattle.jb_records.specs.declared.error.RecordsStepError.{RecordsStepError}
 use Rattle.jb_records.specs.declared.error.RecordsStepError.TheVariants.{Memory, Records, Results, SkippedTry, Step}
 use Rattle.jb_records.specs.declared.step.RecordsStep.{RecordsStep}
 use Rattle.jb_records.specs.Made.{even_partitions}
-use Rattle.jb_records.specs.Stretches.{IsBrokenOff}
+use Rattle.jb_records.specs.Intervals.{IsBrokenOff}
 use Rattle.jb_records.specs.inside.Calls.{IsUnpreparedFor}
-use Rattle.jb_records.specs.inside.Kept.{IsRunBroken}
+use Rattle.jb_records.specs.inside.InMemory.{IsRunBroken}
 
 -- ---- A PLAN THAT CAN BE RUN HAS NO FIRST ERROR
 

@@ -21,7 +21,7 @@ use Rattle.jb_step.specs.preparing.Setup.{Setup, fresh_rows, gone_on, needs, ope
 use Rattle.jb_records.specs.declared.step.RecordsStep.{RecordsStep}
 use Rattle.jb_records.specs.Function.{Function}
 use Rattle.jb_records.specs.Made.{IsStepBegun, step_record}
-use Rattle.jb_records.specs.Shares.{AreNumbered}
+use Rattle.jb_records.specs.PartitionResults.{AreNumbered}
 use Rattle.jb_records.specs.Steps.{AreFirstArtifacts, AreArtifacts, IsArtifactsFor}
 use Rattle.jb_records.specs.Artifacts.{own_records}
 use Rattle.jb_records.specs.inside.Calls.{CanBeginOver, HasOwn, HaveOwn}
@@ -62,8 +62,8 @@ opening-below step records ranges false None within accepted i row at = fresh-be
 opening-below step records ranges false (Some held) within accepted i row at =
     restarted-below records held.rows (not-past (not (bytes_eq held.step step.id)) (ends_past records held.rows) accepted) i row at
 
-pub can-begin : (step : RecordsStep) (records : ℕ) (saved : Option SavedRows) (earlier : List (List ℕ)) (s : Setup) (shares : List (List (List ℕ))) → IsStepBegun step records saved earlier s shares → CanBeginOver records s.rows shares
-can-begin step records saved earlier s shares begun =
+pub can-begin : (step : RecordsStep) (records : ℕ) (saved : Option SavedRows) (earlier : List (List ℕ)) (s : Setup) (partition_results : List (List (List ℕ))) → IsStepBegun step records saved earlier s partition_results → CanBeginOver records s.rows partition_results
+can-begin step records saved earlier s partition_results begun =
     let its = begun.prepared in record {
       within = λ p row at.
           let there : slice_get (opening_rows its.plan.ranges (gone_on its.plan.replace saved)) p ≡ Some row = subst (λ (rs : List Row). slice_get rs p ≡ Some row) its.rows at in
@@ -84,18 +84,18 @@ module _ (records : ℕ) (all : List Row) (given : List (List (List ℕ))) where
   own-if n ns true own owns = (own, owns)
   own-if n ns false own owns = owns
 
-  own-from : (k : ℕ) (rows : List Row) (shares : List (List (List ℕ))) → ((p : ℕ) (row : Row) → slice_get all p ≡ Some row → IsWithin records (range_of row)) → AreNumbered rows shares
-      → ((i : ℕ) (row : Row) → slice_get rows i ≡ Some row → slice_get all (k + i) ≡ Some row) → ((i : ℕ) (share : List (List ℕ)) → slice_get shares i ≡ Some share → slice_get given (k + i) ≡ Some share)
+  own-from : (k : ℕ) (rows : List Row) (partition_results : List (List (List ℕ))) → ((p : ℕ) (row : Row) → slice_get all p ≡ Some row → IsWithin records (range_of row)) → AreNumbered rows partition_results
+      → ((i : ℕ) (row : Row) → slice_get rows i ≡ Some row → slice_get all (k + i) ≡ Some row) → ((i : ℕ) (share : List (List ℕ)) → slice_get partition_results i ≡ Some share → slice_get given (k + i) ≡ Some share)
       → AllByRecursion (HasOwn records all given) (left-of (enumerate_from k rows))
   own-from k [] [] within are at has = tt
-  own-from k [] (share ∷ shares) within are at has = absurd are
+  own-from k [] (share ∷ partition_results) within are at has = absurd are
   own-from k (row ∷ rows) [] within are at has = absurd are
-  own-from k (row ∷ rows) (share ∷ shares) within are at has =
+  own-from k (row ∷ rows) (share ∷ partition_results) within are at has =
       let none : k + 0 ≡ k = omega arith in
       let here : slice_get all k ≡ Some row = subst (λ m. slice_get all m ≡ Some row) none (at zero row refl) in
       own-if (k, row) (left-of (enumerate_from (k + 1) rows)) (not (is_finished row.state))
       (record { row = here; within = within k row here; share = share; given = subst (λ m. slice_get given m ≡ Some share) none (has zero share refl); number = are.0 })
-      (own-from (k + 1) rows shares within are.1
+      (own-from (k + 1) rows partition_results within are.1
       (λ i r get. let e : k + suc i ≡ (k + 1) + i = omega arith in subst (λ m. slice_get all m ≡ Some r) e (at (suc i) r get))
       (λ i x get. let e : k + suc i ≡ (k + 1) + i = omega arith in subst (λ m. slice_get given m ≡ Some x) e (has (suc i) x get)))
 
@@ -121,24 +121,24 @@ own-length records row order below =
 same-given : (o : Option (List (List ℕ))) (share other : List (List ℕ)) → o ≡ Some share → o ≡ Some other → other ≡ share
 same-given o share other a b = cc
 
-module _ (f : Function) (rules : RulesRecord) (records : List (List ℕ)) (rows : List Row) (shares : List (List (List ℕ))) where
-  fit-one : (n : ℕ × Row) (w : ArtifactsMeaning) → HasOwn (length records) rows shares n → IsArtifactsFor f rules records shares n w → Fits w n.1
+module _ (f : Function) (rules : RulesRecord) (records : List (List ℕ)) (rows : List Row) (partition_results : List (List (List ℕ))) where
+  fit-one : (n : ℕ × Row) (w : ArtifactsMeaning) → HasOwn (length records) rows partition_results n → IsArtifactsFor f rules records partition_results n w → Fits w n.1
   fit-one n w own first =
       let order = own.within.0 in
       let below = own.within.1 in
       let from = first.0.first_is in
       let long = ap length first.0.records_are ∙ own-length records n.1 order below in
-      let number = ap length (same-given (slice_get shares n.0) own.share w.writer.written own.given first.1) ∙ own.number in
+      let number = ap length (same-given (slice_get partition_results n.0) own.share w.writer.written own.given first.1) ∙ own.number in
       record { from = omega (arith, from); to = omega (arith, from, long, order); count = omega (arith, number) }
 
-  all-fit : (ns : List (ℕ × Row)) (ws : List ArtifactsMeaning) → AllByRecursion (HasOwn (length records) rows shares) ns → AreArtifacts f rules records shares ns ws → FitRows ns ws
+  all-fit : (ns : List (ℕ × Row)) (ws : List ArtifactsMeaning) → AllByRecursion (HasOwn (length records) rows partition_results) ns → AreArtifacts f rules records partition_results ns ws → FitRows ns ws
   all-fit [] [] owns are = tt
   all-fit [] (w ∷ ws) owns are = absurd are
   all-fit (n ∷ ns) [] owns are = absurd are
   all-fit (n ∷ ns) (w ∷ ws) owns are = (fit-one n w owns.0 are.0, all-fit ns ws owns.1 are.1)
 
-pub artifacts-fit : (f : Function) (rules : RulesRecord) (records : List (List ℕ)) (s : Setup) (shares : List (List (List ℕ))) (ws : List ArtifactsMeaning) → CanBeginOver (length records) s.rows shares → AreArtifacts f rules records shares (unfinished s.rows) ws → DoFit s ws
-artifacts-fit f rules records s shares ws can are = all-fit f rules records s.rows shares (unfinished s.rows) ws (own-all (length records) s.rows shares can) are
+pub artifacts-fit : (f : Function) (rules : RulesRecord) (records : List (List ℕ)) (s : Setup) (partition_results : List (List (List ℕ))) (ws : List ArtifactsMeaning) → CanBeginOver (length records) s.rows partition_results → AreArtifacts f rules records partition_results (unfinished s.rows) ws → DoFit s ws
+artifacts-fit f rules records s partition_results ws can are = all-fit f rules records s.rows partition_results (unfinished s.rows) ws (own-all (length records) s.rows partition_results can) are
 
-pub first-artifacts-fit : (f : Function) (rules : RulesRecord) (records : List (List ℕ)) (s : Setup) (shares : List (List (List ℕ))) (ws : List ArtifactsMeaning) → CanBeginOver (length records) s.rows shares → AreFirstArtifacts f rules records shares (unfinished s.rows) ws → DoFit s ws
-first-artifacts-fit f rules records s shares ws can are = artifacts-fit f rules records s shares ws can (artifacts-at-first f rules records shares (unfinished s.rows) ws are)
+pub first-artifacts-fit : (f : Function) (rules : RulesRecord) (records : List (List ℕ)) (s : Setup) (partition_results : List (List (List ℕ))) (ws : List ArtifactsMeaning) → CanBeginOver (length records) s.rows partition_results → AreFirstArtifacts f rules records partition_results (unfinished s.rows) ws → DoFit s ws
+first-artifacts-fit f rules records s partition_results ws can are = artifacts-fit f rules records s partition_results ws can (artifacts-at-first f rules records partition_results (unfinished s.rows) ws are)

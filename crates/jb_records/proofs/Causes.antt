@@ -8,7 +8,7 @@ use Rattle.jb_base.specs.declared.class.ClassId.{ClassId}
 use Rattle.jb_base.specs.declared.range.Range.{Range}
 use Rattle.jb_base.specs.Rules.{RulesRecord}
 use Rattle.jb_collect.specs.declared.calls.ReducerCall.{ReducerCall}
-use Rattle.jb_collect.specs.Taken.{Taken, faulted, since, well}
+use Rattle.jb_collect.specs.AnsweredCalls.{AnsweredCall, faulted, since, well}
 use Rattle.jb_collect.specs.declared.calls.ReducerCall.TheVariants.{Begin}
 use Rattle.jb_base.specs.Causes.{IsCause}
 use Rattle.jb_job.specs.Reading.{tree_of}
@@ -35,7 +35,7 @@ use Rattle.jb_records.specs.Function.{Function, tries_of}
 use Rattle.jb_records.specs.Made.{even_partitions, step_record}
 use Rattle.jb_records.specs.Artifacts.{AreNeverSkipped, own_records, record_of}
 use Rattle.jb_records.specs.inside.Calls.{IsTryRefused, IsUnbegun, IsUnbegunBehind, HasNoEnd, IsUnprepared, IsUnpreparedFor, written_by}
-use Rattle.jb_records.specs.Shares.{AreNumbered, joined}
+use Rattle.jb_records.specs.PartitionResults.{AreNumbered, joined}
 use Rattle.jb_records.proofs.Calling.{own-length}
 use Rattle.jb_records.proofs.Steps.{well-faults}
 
@@ -54,12 +54,12 @@ no-plan : (plan : PartitionPlan) (class : ClassId) → ◌≡◌ {A = Result Par
 no-plan plan class is = cc
 
 -- the reducer answers each call well
-no-fault : (step : StepRecord) (records : ℕ) (mapped : Result PartitionPlan ClassId) (saved : Option SavedRows) (before : List (Taken ReducerCall)) (new : List ReducerCall) (class : ClassId)
+no-fault : (step : StepRecord) (records : ℕ) (mapped : Result PartitionPlan ClassId) (saved : Option SavedRows) (before : List (AnsweredCall ReducerCall)) (new : List ReducerCall) (class : ClassId)
     → (since before (map well new) ≡ faulted Begin class ∷ []) ⊎ CanOverride step records mapped saved × IsFaultedRollback class (since before (map well new)) → ⊥
 no-fault step records mapped saved before new class (inl at_begin) = let none : false ≡ true = sym (well-faults (length before) new) ∙ ap has_fault at_begin in cc
 no-fault step records mapped saved before new class (inr later) = let none : false ≡ true = sym (well-faults (length before) new) ∙ ap has_fault later.1.calls in cc
 
-pub unprepared : (step : StepRecord) (records : ℕ) (mapped : Result PartitionPlan ClassId) (plan : PartitionPlan) (saved : Option SavedRows) (before : List (Taken ReducerCall)) (new : List ReducerCall) (e : StepError) → mapped ≡ Ok plan → plan.replace ≡ false
+pub unprepared : (step : StepRecord) (records : ℕ) (mapped : Result PartitionPlan ClassId) (plan : PartitionPlan) (saved : Option SavedRows) (before : List (AnsweredCall ReducerCall)) (new : List ReducerCall) (e : StepError) → mapped ≡ Ok plan → plan.replace ≡ false
     → IsPrepareRefusal step records mapped saved (since before (map well new)) e → IsUnprepared step records plan saved (Step e)
 unprepared step records mapped plan saved before new (error.Plan fault) maps kept is =
     subst (λ (p : PartitionPlan). IsUnprepared step records p saved (Step (error.Plan fault))) (plan-is plan is.0 (sym maps ∙ is.1)) is.2
@@ -113,32 +113,32 @@ pub opening-written : (ranges : List Range) (saved : Option SavedRows) → writt
 opening-written ranges None = fresh-written ranges
 opening-written ranges (Some held) = again-written held.rows
 
-numbered-written : (rows : List Row) (shares : List (List (List ℕ))) → AreNumbered rows shares → length (joined shares) ≡ written_in rows
+numbered-written : (rows : List Row) (partition_results : List (List (List ℕ))) → AreNumbered rows partition_results → length (joined partition_results) ≡ written_in rows
 numbered-written [] [] are = refl
-numbered-written [] (share ∷ shares) are = absurd are
+numbered-written [] (share ∷ partition_results) are = absurd are
 numbered-written (row ∷ rows) [] are = absurd are
-numbered-written (row ∷ rows) (share ∷ shares) are =
+numbered-written (row ∷ rows) (share ∷ partition_results) are =
     let first = are.0 in
-    let rest = numbered-written rows shares are.1 in
+    let rest = numbered-written rows partition_results are.1 in
     let all = sum_by-cons (λ (r : Row). r.written) row rows in
-    length-append share (joined shares) ∙ omega (arith, first, rest, all)
+    length-append share (joined partition_results) ∙ omega (arith, first, rest, all)
 
-written-before : (rows : List Row) (shares : List (List (List ℕ))) (earlier : List (List ℕ)) (place : ℕ) → AreNumbered rows shares → joined shares ≡ take place earlier → place ≤ length earlier → written_in rows ≡ place
-written-before rows shares earlier place are is few = sym (numbered-written rows shares are) ∙ ap length is ∙ length-take-le place earlier few
+written-before : (rows : List Row) (partition_results : List (List (List ℕ))) (earlier : List (List ℕ)) (place : ℕ) → AreNumbered rows partition_results → joined partition_results ≡ take place earlier → place ≤ length earlier → written_in rows ≡ place
+written-before rows partition_results earlier place are is few = sym (numbered-written rows partition_results are) ∙ ap length is ∙ length-take-le place earlier few
 
 -- more than all shares have
-pub too-many : (rows : List Row) (shares : List (List (List ℕ))) (earlier : List (List ℕ)) (place : ℕ) → AreNumbered rows shares → joined shares ≡ take place earlier → place ≤ length earlier → (place ≡ length earlier → ⊥)
+pub too-many : (rows : List Row) (partition_results : List (List (List ℕ))) (earlier : List (List ℕ)) (place : ℕ) → AreNumbered rows partition_results → joined partition_results ≡ take place earlier → place ≤ length earlier → (place ≡ length earlier → ⊥)
     → length earlier ≡ written_in rows → ⊥
-too-many rows shares earlier place are is few more all = more (sym (all ∙ written-before rows shares earlier place are is few))
+too-many rows partition_results earlier place are is few more all = more (sym (all ∙ written-before rows partition_results earlier place are is few))
 
 -- fewer than the next share has
-pub too-few : (rows : List Row) (p : ℕ) (row : Row) (shares : List (List (List ℕ))) (earlier : List (List ℕ)) (place : ℕ) → Some row ≡ slice_get rows p → AreNumbered (take p rows) shares → joined shares ≡ take place earlier → place ≤ length earlier
+pub too-few : (rows : List Row) (p : ℕ) (row : Row) (partition_results : List (List (List ℕ))) (earlier : List (List ℕ)) (place : ℕ) → Some row ≡ slice_get rows p → AreNumbered (take p rows) partition_results → joined partition_results ≡ take place earlier → place ≤ length earlier
     → length earlier < place + row.written → length earlier ≡ written_in rows → ⊥
-too-few rows p row shares earlier place at are is few less all =
+too-few rows p row partition_results earlier place at are is few less all =
     let here : get_or rows p row ≡ row = get_or_from_slice_get rows p row row (sym at) in
     let longer : take (p + 1) rows ≡ take p rows ++ row ∷ [] = take_more rows p row (slice_get_within rows p row (sym at)) ∙ ap (λ r. take p rows ++ r ∷ []) here in
     let next : written_in (take (p + 1) rows) ≡ written_in (take p rows) + written_in (row ∷ []) = ap written_in longer ∙ sum_by-append (λ (r : Row). r.written) (take p rows) (row ∷ []) in
-    let before = written-before (take p rows) shares earlier place are is few in
+    let before = written-before (take p rows) partition_results earlier place are is few in
     let most = sum_by-take-le (λ (r : Row). r.written) rows (p + 1) in
     let one : written_in (row ∷ []) ≡ row.written = omega arith in
     absurd (omega (arith, next, before, most, one, less, all))
@@ -164,9 +164,9 @@ others-refused step records saved earlier rows ranges e are (inr others) =
 
 pub skipped-here : (f : Function) (rules : RulesRecord) (first : ℕ) (records : List (List ℕ)) (i : ℕ) (bytes : List ℕ) (classes : List ClassId) → i < length records → bytes ≡ slice_index_or records i []
     → classes ≡ tries_of f bytes → (AreNeverSkipped rules classes → ⊥) → HasSkippedTry f rules first records
-skipped-here f rules first records i bytes classes within is told skipped =
+skipped-here f rules first records i bytes classes within is written_before skipped =
     let place : i ≡ first + i - first = omega arith in
-    let same : classes ≡ tries_of f (record_of first records (first + i)) = told ∙ ap (tries_of f) (is ∙ ap (λ n. slice_index_or records n []) place) in
+    let same : classes ≡ tries_of f (record_of first records (first + i)) = written_before ∙ ap (tries_of f) (is ∙ ap (λ n. slice_index_or records n []) place) in
     record { number = first + i; from = omega arith; to = omega (arith, within); skipped = λ are. skipped (subst (AreNeverSkipped rules) (sym same) are) }
 
 -- one of a partition's records is one of all
@@ -215,8 +215,8 @@ broken-off f rules records error.Memory is fits = tt
 
 -- ---- FROM CALL TO CALL
 
-abbrev Taken-over : Type 0
-Taken-over = Option (List ℕ × List (List ℕ))
+abbrev AnsweredCall-over : Type 0
+AnsweredCall-over = Option (List ℕ × List (List ℕ))
 
 -- anew
 pub begun-anew-refused : (step : RecordsStep) (records : ℕ) (e : RecordsStepError) → IsUnbegun step records None 0 e → IsUnbegunBehind step records None e
@@ -260,7 +260,7 @@ text-refused step records text results error.Workers is = absurd is
 text-refused step records text results (error.Saved place) is = inl is
 text-refused step records text results error.Memory is = tt
 
-pub why-unbegun : (f : Function) (step : RecordsStep) (records : List (List ℕ)) (earlier : Taken-over) (e : RecordsStepError) → IsUnbegunBehind step (length records) earlier e → IsCauseOf f step records earlier e
+pub why-unbegun : (f : Function) (step : RecordsStep) (records : List (List ℕ)) (earlier : AnsweredCall-over) (e : RecordsStepError) → IsUnbegunBehind step (length records) earlier e → IsCauseOf f step records earlier e
 why-unbegun f step records earlier Records is = is
 why-unbegun f step records None Results is = is
 why-unbegun f step records (Some given) Results is = is
@@ -268,7 +268,7 @@ why-unbegun f step records earlier SkippedTry is = absurd is
 why-unbegun f step records earlier (Step why) is = is
 why-unbegun f step records earlier Memory is = is
 
-pub why-unended : (f : Function) (step : RecordsStep) (rules : RulesRecord) (records : List (List ℕ)) (earlier : Taken-over) (e : RecordsStepError) → rules ≡ step.rules → HasNoEnd f rules records e → IsCauseOf f step records earlier e
+pub why-unended : (f : Function) (step : RecordsStep) (rules : RulesRecord) (records : List (List ℕ)) (earlier : AnsweredCall-over) (e : RecordsStepError) → rules ≡ step.rules → HasNoEnd f rules records e → IsCauseOf f step records earlier e
 why-unended f step rules records earlier Records same is = absurd is
 why-unended f step rules records earlier Results same is = absurd is
 why-unended f step rules records earlier SkippedTry same is = subst (λ (r : RulesRecord). HasSkippedTry f r 0 records) same is

@@ -19,7 +19,7 @@ use Rattle.jb_chunk.specs.Attempt.{AttemptEnd, again_of, block_of, end_of, endin
 use Rattle.jb_chunk.specs.Block.{count_of, entry, entry_by, settles, settling, skips_before, stops}
 use Rattle.jb_chunk.specs.Entries.{fault_in, is_fault, is_read_fault}
 use Rattle.jb_chunk.specs.Laws.{RepeatsAreRetries, TasksStandAtCheckpoints, WaysJoin}
-use Rattle.jb_chunk.specs.Standing.{IsReady, TaskState}
+use Rattle.jb_chunk.specs.TaskState.{IsReady, TaskState}
 use Rattle.jb_chunk.specs.declared.outcome.Outcome.{Outcome}
 use Rattle.jb_chunk.specs.declared.outcome.Outcome.TheVariants.{Committed, Rolled, Failed, NoMemory}
 use Rattle.jb_chunk.proofs.RecordRepeats.{unfound}
@@ -31,9 +31,9 @@ use Rattle.jb_step.specs.preparing.Prepare.{DoFit}
 use Rattle.jb_step.specs.preparing.Setup.{IsSetup, Setup, first_tasks, fresh_rows, rows_now, unfinished}
 use Rattle.jb_records.specs.Function.{Function, answer_for, refusal_in, refusal_of, result_in, result_of}
 use Rattle.jb_records.specs.Runs.{HasResults, PartsStay, ResultsGoOn}
-use Rattle.jb_records.specs.Shares.{IsSoFar}
+use Rattle.jb_records.specs.PartitionResults.{IsSoFar}
 use Rattle.jb_records.specs.Skips.{AreCounted, AreSkipsCounted, NewRowsAreCounted, SkipsAreCounted, skip_by, skips_between}
-use Rattle.jb_records.specs.Steps.{AreArtifacts, BeginsAnew}
+use Rattle.jb_records.specs.Steps.{AreArtifacts, StartsFresh}
 use Rattle.jb_records.specs.Artifacts.{IsArtifactsOver, IsFaulted, IsNeverSkipped, own_records, record_of}
 use Rattle.jb_records.proofs.EachRow.{Stays, TasksStay, rows-stay}
 use Rattle.jb_records.proofs.Going.{Commits, HasBlock, all-written, commit-none, entry-is, live-never, never, never-stops, repeated-task, repeats-have, same-task, way-on, whole_counts}
@@ -199,10 +199,10 @@ tasks-stay stand join law goes parts f records s (t ∷ ts) (x ∷ xs) ready hav
     (task-stays f records t x have.0.from (parts t x ways.0).lo more, tasks-stay stand join law goes parts f records s ts xs ready.1 have.1 ways.1)
 
 pub skips-counted : TasksStandAtCheckpoints → WaysJoin → RepeatsAreRetries → ResultsGoOn → PartsStay → BeginsWithTasks → BeginsWithRows → SkipsAreCounted
-skips-counted stand join law goes parts begins same f records shares s artifacts ends is fit are ways so-far counted =
+skips-counted stand join law goes parts begins same f records partition_results s artifacts ends is fit are ways so-far counted =
     let ready = (begins s artifacts is fit).tasks in
     let ts = first_tasks s artifacts in
-    let begun = all-begun f records shares s 0 s.rows shares artifacts so-far.each (λ i share get. let e : i ≡ 0 + i = omega arith in subst (λ m. slice_get shares m ≡ Some share) e get) are ready in
+    let begun = all-begun f records partition_results s 0 s.rows partition_results artifacts so-far.each (λ i share get. let e : i ≡ 0 + i = omega arith in subst (λ m. slice_get partition_results m ≡ Some share) e get) are ready in
     let stay = tasks-stay stand join law goes parts f records s ts ends ready begun ways in
     rows-stay (AreSkipsCounted f records) parts ts ends 0 s.rows ways stay (subst (AreCounted f records) (sym (same s artifacts fit)) counted)
 
@@ -212,12 +212,12 @@ pub new-counted : (f : Function) (records : List (List ℕ)) (ranges : List Rang
 new-counted f records [] = tt
 new-counted f records (r ∷ rs) = (sym (ap length (skips-none f records r.lo)), new-counted f records rs)
 
-pub anew-counted : NewRowsAreCounted → (f : Function) (records : List (List ℕ)) (count : ℕ) (s : Setup) → BeginsAnew count s → AreCounted f records s.rows
+pub anew-counted : NewRowsAreCounted → (f : Function) (records : List (List ℕ)) (count : ℕ) (s : Setup) → StartsFresh count s → AreCounted f records s.rows
 anew-counted law f records count s anew = subst (AreCounted f records) (sym anew.rows) (law f records anew.ranges)
 
 -- ---- HOW IT ENDS
 
-pub led-counted : SkipsAreCounted → (f : Function) (records : List (List ℕ)) (shares : List (List (List ℕ))) (r : StepRun) → IsRunOfStep r → AreArtifacts f r.setup.rules records shares (unfinished r.setup.rows) r.artifacts → DoFit r.setup r.artifacts
-    → AreOnTheWay (tasks_before r) (tasks_after r) → IsSetup r.setup → IsSoFar f records r.setup.rows shares → AreCounted f records r.setup.rows → AreCounted f records r.snapshot.rows.items
-led-counted law f records shares r run are fit ways is so-far counted =
-    subst (AreCounted f records) (sym (run.rows ∙ ap (rows_now r.setup.rows) (sym run.tasks))) (law f records shares r.setup r.artifacts (tasks_after r) is fit are ways so-far counted)
+pub led-counted : SkipsAreCounted → (f : Function) (records : List (List ℕ)) (partition_results : List (List (List ℕ))) (r : StepRun) → IsRunOfStep r → AreArtifacts f r.setup.rules records partition_results (unfinished r.setup.rows) r.artifacts → DoFit r.setup r.artifacts
+    → AreOnTheWay (tasks_before r) (tasks_after r) → IsSetup r.setup → IsSoFar f records r.setup.rows partition_results → AreCounted f records r.setup.rows → AreCounted f records r.snapshot.rows.items
+led-counted law f records partition_results r run are fit ways is so-far counted =
+    subst (AreCounted f records) (sym (run.rows ∙ ap (rows_now r.setup.rows) (sym run.tasks))) (law f records partition_results r.setup r.artifacts (tasks_after r) is fit are ways so-far counted)

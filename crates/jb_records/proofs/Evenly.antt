@@ -8,7 +8,7 @@ use Rattle.jb_base.specs.declared.range.Range.{Range}
 use Rattle.jb_plan.specs.declared.plan.PartitionPlan.{PartitionPlan}
 use Rattle.jb_mapper.specs.Mapping.{even}
 use Rattle.jb_mapper.specs.EvenCover.{bound, even_range, even_ranges}
-use Rattle.jb_records.specs.Shares.{AreRangesOf}
+use Rattle.jb_records.specs.PartitionResults.{AreRangesOf}
 
 rises : (records parts i : ℕ) → bound records parts i ≤ bound records parts (i + 1)
 rises records parts i =

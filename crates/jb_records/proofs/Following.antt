@@ -6,7 +6,7 @@ use Rattle.jb_base.specs.Rules.{RulesRecord}
 use Rattle.jb_base.specs.declared.class.ClassId.{ClassId}
 use Rattle.jb_base.specs.declared.range.Range.{Range}
 use Rattle.jb_chunk.specs.Laws.{RepeatsAreRetries, TasksStandAtCheckpoints, WaysJoin}
-use Rattle.jb_chunk.specs.Standing.{TaskState}
+use Rattle.jb_chunk.specs.TaskState.{TaskState}
 use Rattle.jb_collect.specs.declared.calls.Status.{Status}
 use Rattle.jb_collect.specs.declared.calls.Status.TheVariants as status
 use Rattle.jb_job.specs.Reading.{tree_of}
@@ -34,13 +34,13 @@ use Rattle.jb_step.specs.rounds.PlanLaws.{AreTasksOf, BeginsWithRows, BeginsWith
 use Rattle.jb_records.specs.Artifacts.{record_of}
 use Rattle.jb_records.specs.declared.step.RecordsStep.{RecordsStep}
 use Rattle.jb_records.specs.Following.{AreRulesRaised, FollowRules, FollowsRules, HasFailed, IsStop, RangePasses, RangesPass, RowsPass, StepPasses, classes_between, ranges_of}
-use Rattle.jb_records.specs.Earlier.{FollowAgain, IsOfStoppedRun}
+use Rattle.jb_records.specs.StoppedRuns.{FollowAgain, HoldsStoppedRun}
 use Rattle.jb_records.specs.FollowingLaws.{FailedRowsDont, FinishedRowsPass, NewRowsFollow, RaisedRulesFollow, RangesStay, RestartsKeepRanges, RulesAreKept, StoppedRowsDont, StopsAreOne}
 use Rattle.jb_records.specs.Function.{Function, IsSteady, refusal_of}
 use Rattle.jb_records.specs.Made.{even_partitions, step_record}
 use Rattle.jb_records.specs.Runs.{PartsStay, ResultsGoOn}
-use Rattle.jb_records.specs.Shares.{AreAtTheirEnds, AreShares, IsSoFar}
-use Rattle.jb_records.specs.Steps.{AreArtifacts, BeginsAnew, StepsKeepResults}
+use Rattle.jb_records.specs.PartitionResults.{AreAtTheirEnds, ArePartitionResults, IsSoFar}
+use Rattle.jb_records.specs.Steps.{AreArtifacts, StartsFresh, StepsKeepResults}
 use Rattle.jb_records.specs.inside.Following.{EndsOver, GoesOnByRules}
 use Rattle.jb_records.proofs.EachRow.{TasksStay, rows-stay}
 use Rattle.jb_records.proofs.Leading.{way-follows}
@@ -63,10 +63,10 @@ module _ (skip : SkipsPass) (fail : FailsDont) (stand : TasksStandAtCheckpoints)
   )
 
   pub rules-kept : BeginsWithTasks → BeginsWithRows → RulesAreKept
-  rules-kept begins same f records shares s artifacts ends steady is fit are ways so-far follow =
+  rules-kept begins same f records partition_results s artifacts ends steady is fit are ways so-far follow =
       let ready = (begins s artifacts is fit).tasks in
       let ts = first_tasks s artifacts in
-      let begun = all-begun f records shares s 0 s.rows shares artifacts so-far.each (λ i share get. let e : i ≡ 0 + i = omega arith in subst (λ m. slice_get shares m ≡ Some share) e get) are ready in
+      let begun = all-begun f records partition_results s 0 s.rows partition_results artifacts so-far.each (λ i share get. let e : i ≡ 0 + i = omega arith in subst (λ m. slice_get partition_results m ≡ Some share) e get) are ready in
       let stay = tasks-follow f records s steady ts ends ready begun (first-ruled s (unfinished s.rows) artifacts) ways in
       rows-stay (FollowsRules f s.rules records) parts ts ends 0 s.rows ways stay (subst (FollowRules f s.rules records) (sym (same s artifacts fit)) follow)
 
@@ -115,17 +115,17 @@ ranges-anew false ranges = fresh-ranges ranges
 
 -- ---- FINISHED ROWS
 
-all-pass : (f : Function) (rules : RulesRecord) (records : List (List ℕ)) (rows : List Row) (shares : List (List (List ℕ))) → AreShares f records rows shares → FollowRules f rules records rows → AreAtTheirEnds rows
+all-pass : (f : Function) (rules : RulesRecord) (records : List (List ℕ)) (rows : List Row) (partition_results : List (List (List ℕ))) → ArePartitionResults f records rows partition_results → FollowRules f rules records rows → AreAtTheirEnds rows
     → RowsPass f rules records rows
-all-pass f rules records [] shares are follow whole = tt
+all-pass f rules records [] partition_results are follow whole = tt
 all-pass f rules records (row ∷ rows) [] are follow whole = absurd are
-all-pass f rules records (row ∷ rows) (share ∷ shares) are follow whole = (
+all-pass f rules records (row ∷ rows) (share ∷ partition_results) are follow whole = (
   subst (λ n. Pass rules (classes_between f records row.lo n)) (are.0.whole whole.0) follow.0.passed,
-  all-pass f rules records rows shares are.1 follow.1 whole.1,
+  all-pass f rules records rows partition_results are.1 follow.1 whole.1,
 )
 
 pub finished-pass : FinishedRowsPass
-finished-pass f rules records rows shares so-far follow whole = all-pass f rules records rows shares so-far.each follow whole
+finished-pass f rules records rows partition_results so-far follow whole = all-pass f rules records rows partition_results so-far.each follow whole
 
 -- ---- FAILED ROWS
 
@@ -226,11 +226,11 @@ same-raised rules = record { skippable = refl; skips = same-limit rules.skip_lim
 
 -- ---- HOW A RUN ENDS
 
-pub led-following : RulesAreKept → (f : Function) (records : List (List ℕ)) (shares : List (List (List ℕ))) (r : StepRun) → IsSteady f → IsRunOfStep r → AreArtifacts f r.setup.rules records shares (unfinished r.setup.rows) r.artifacts
-    → DoFit r.setup r.artifacts → AreOnTheWay (tasks_before r) (tasks_after r) → IsSetup r.setup → IsSoFar f records r.setup.rows shares → FollowRules f r.setup.rules records r.setup.rows
+pub led-following : RulesAreKept → (f : Function) (records : List (List ℕ)) (partition_results : List (List (List ℕ))) (r : StepRun) → IsSteady f → IsRunOfStep r → AreArtifacts f r.setup.rules records partition_results (unfinished r.setup.rows) r.artifacts
+    → DoFit r.setup r.artifacts → AreOnTheWay (tasks_before r) (tasks_after r) → IsSetup r.setup → IsSoFar f records r.setup.rows partition_results → FollowRules f r.setup.rules records r.setup.rows
     → FollowRules f r.setup.rules records r.snapshot.rows.items
-led-following law f records shares r steady run are fit ways is so-far follow =
-    subst (FollowRules f r.setup.rules records) (sym (run.rows ∙ ap (rows_now r.setup.rows) (sym run.tasks))) (law f records shares r.setup r.artifacts (tasks_after r) steady is fit are ways so-far follow)
+led-following law f records partition_results r steady run are fit ways is so-far follow =
+    subst (FollowRules f r.setup.rules records) (sym (run.rows ∙ ap (rows_now r.setup.rows) (sym run.tasks))) (law f records partition_results r.setup r.artifacts (tasks_after r) steady is fit are ways so-far follow)
 
 pub led-ranges : RangesStay → (r : StepRun) → IsRunOfStep r → DoFit r.setup r.artifacts → AreOnTheWay (tasks_before r) (tasks_after r) → IsSetup r.setup → ranges_of r.snapshot.rows.items ≡ ranges_of r.setup.rows
 led-ranges law r run fit ways is = ap ranges_of (run.rows ∙ ap (rows_now r.setup.rows) (sym run.tasks)) ∙ law r.setup r.artifacts (tasks_after r) is fit ways
@@ -244,13 +244,13 @@ failed-rows false false e = absurd cc
 pub has-failed : (rows : List Row) → status_of rows false ≡ status.Failed → HasFailed rows
 has-failed rows e = failed-rows (list_any (λ row. is_failed row.state) rows) (list_any (λ row. not (is_finished row.state)) rows) e
 
-pub ends-by : RulesAreKept → RangesStay → FinishedRowsPass → FailedRowsDont → StepsKeepResults → (f : Function) (records : List (List ℕ)) (shares : List (List (List ℕ))) (r : StepRun) (now : Status) → IsSteady f → IsRunOfStep r
-    → AreArtifacts f r.setup.rules records shares (unfinished r.setup.rows) r.artifacts → DoFit r.setup r.artifacts → AreOnTheWay (tasks_before r) (tasks_after r) → IsSetup r.setup → IsSoFar f records r.setup.rows shares
+pub ends-by : RulesAreKept → RangesStay → FinishedRowsPass → FailedRowsDont → StepsKeepResults → (f : Function) (records : List (List ℕ)) (partition_results : List (List (List ℕ))) (r : StepRun) (now : Status) → IsSteady f → IsRunOfStep r
+    → AreArtifacts f r.setup.rules records partition_results (unfinished r.setup.rows) r.artifacts → DoFit r.setup r.artifacts → AreOnTheWay (tasks_before r) (tasks_after r) → IsSetup r.setup → IsSoFar f records r.setup.rows partition_results
     → FollowRules f r.setup.rules records r.setup.rows → now ≡ status_of r.snapshot.rows.items false → EndsOver f r.setup.rules records r.setup.rows r.snapshot.rows.items now
-ends-by law stay finished failed kept f records shares r now steady run are fit ways is so-far follow stands =
+ends-by law stay finished failed kept f records partition_results r now steady run are fit ways is so-far follow stands =
     let rows = r.snapshot.rows.items in
-    let so = led kept f records shares r run are fit ways is so-far in
-    let follows = led-following law f records shares r steady run are fit ways is so-far follow in
+    let so = led kept f records partition_results r run are fit ways is so-far in
+    let follows = led-following law f records partition_results r steady run are fit ways is so-far follow in
     record {
       by_rules = record {
         follows = follows;
@@ -261,10 +261,10 @@ ends-by law stay finished failed kept f records shares r now steady run are fit 
     }
 
 -- behind an earlier run
-pub goes-on-by : (f : Function) (rules : RulesRecord) (records : List (List ℕ)) (text : List ℕ) (own : SavedRows) (earlier : List (List ℕ)) (s : Setup) (shares : List (List (List ℕ)))
-    → answer_of (tree_of text) ≡ Ok own → s.rows ≡ rows_restarted own → s.rules ≡ rules → (IsOfStoppedRun f records text earlier → IsSoFar f records s.rows shares)
-    → IsOfStoppedRun f records text earlier × IsSteady f × FollowAgain f rules records text → GoesOnByRules f rules records s shares
-goes-on-by f rules records text own earlier s shares read rows ruled goes given =
+pub goes-on-by : (f : Function) (rules : RulesRecord) (records : List (List ℕ)) (text : List ℕ) (own : SavedRows) (earlier : List (List ℕ)) (s : Setup) (partition_results : List (List (List ℕ)))
+    → answer_of (tree_of text) ≡ Ok own → s.rows ≡ rows_restarted own → s.rules ≡ rules → (HoldsStoppedRun f records text earlier → IsSoFar f records s.rows partition_results)
+    → HoldsStoppedRun f records text earlier × IsSteady f × FollowAgain f rules records text → GoesOnByRules f rules records s partition_results
+goes-on-by f rules records text own earlier s partition_results read rows ruled goes given =
     let again = given.2 in
     record {
       steady = given.1;
@@ -277,7 +277,7 @@ goes-on-by f rules records text own earlier s shares read rows ruled goes given 
 
 -- ---- THE STEP'S OWN RANGES
 
-pub anew-follow : NewRowsFollow → (f : Function) (rules : RulesRecord) (records : List (List ℕ)) (count : ℕ) (s : Setup) → BeginsAnew count s → FollowRules f rules records s.rows
+pub anew-follow : NewRowsFollow → (f : Function) (rules : RulesRecord) (records : List (List ℕ)) (count : ℕ) (s : Setup) → StartsFresh count s → FollowRules f rules records s.rows
 anew-follow law f rules records count s anew = subst (FollowRules f rules records) (sym anew.rows) (law f rules records anew.ranges)
 
 ranges-or : List Range → Result PartitionPlan ClassId → List Range

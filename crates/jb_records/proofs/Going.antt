@@ -26,7 +26,7 @@ use Rattle.jb_chunk.specs.Attempt.{AttemptEnd, attempt_of, block_of, results_of,
 use Rattle.jb_chunk.specs.Block.{entry, entry_by, results, settles, settling, stops, is_skip, choice_at, skips_before, used_between}
 use Rattle.jb_chunk.specs.Entries.{Entry, ReadFault, ProcessFault, Processed, fault_in, text_in, numbered}
 use Rattle.jb_chunk.specs.Laws.{RepeatsAreRetries, TasksStandAtCheckpoints, WaysJoin}
-use Rattle.jb_chunk.specs.Standing.{IsReady, TaskState, at_checkpoint}
+use Rattle.jb_chunk.specs.TaskState.{IsReady, TaskState, at_checkpoint}
 use Rattle.jb_chunk.proofs.AddedCounts.{settling-stops}
 use Rattle.jb_chunk.proofs.ChunkRepeats.{choice_by}
 use Rattle.jb_chunk.proofs.RecordRepeats.{unfound}
@@ -115,7 +115,7 @@ module _ (f : Function) (rules : RulesRecord) (first : ℕ) (records : List (Lis
   -- ---- CALLS THAT ARE REPEATED IN PLACE
 
   -- a repeat leaves what the partition works with, and what is written
-  record IsKept (w now : ArtifactsMeaning) : Type 0 where
+  record IsAsPrepared (w now : ArtifactsMeaning) : Type 0 where
     pub artifacts : IsArtifactsOver f rules first records now
     pub written : now.writer.written ≡ w.writer.written
 
@@ -131,7 +131,7 @@ module _ (f : Function) (rules : RulesRecord) (first : ℕ) (records : List (Lis
   unfolding used_at
   steady-at plans n is steady k = steady-by k _ (plans k) (is steady k)
 
-  call-kept : (w : ArtifactsMeaning) (k : ℕ) (e : Entry) → IsArtifactsOver f rules first records w → IsKept w (called_again w k e)
+  call-kept : (w : ArtifactsMeaning) (k : ℕ) (e : Entry) → IsArtifactsOver f rules first records w → IsAsPrepared w (called_again w k e)
   call-kept w k (ReadFault class) is = record {
     artifacts = record { first_is = is.first_is; records_are = is.records_are; reads = reads-at w.reader.faults k is.reads; answers = is.answers; faults = is.faults; steady = is.steady; writes = is.writes };
     written = refl;
@@ -145,18 +145,18 @@ module _ (f : Function) (rules : RulesRecord) (first : ℕ) (records : List (Lis
     written = refl;
   }
 
-  repeat-kept : (t : TaskState) (settled : Option ℕ) → IsArtifactsOver f rules first records t.artifacts → IsKept t.artifacts (repeated_artifacts t settled)
+  repeat-kept : (t : TaskState) (settled : Option ℕ) → IsArtifactsOver f rules first records t.artifacts → IsAsPrepared t.artifacts (repeated_artifacts t settled)
   repeat-kept t (Some k) is = call-kept t.artifacts k (entry t.artifacts k) is
   repeat-kept t None is = record {
     artifacts = record { first_is = is.first_is; records_are = is.records_are; reads = is.reads; answers = is.answers; faults = is.faults; steady = is.steady; writes = write-plans t None is.writes };
     written = refl;
   }
 
-  kept-if : (w : ArtifactsMeaning) (b : Bool) (t u : TaskState) → IsKept w t.artifacts → IsKept w u.artifacts → IsKept w (cond b t u).artifacts
+  kept-if : (w : ArtifactsMeaning) (b : Bool) (t u : TaskState) → IsAsPrepared w t.artifacts → IsAsPrepared w u.artifacts → IsAsPrepared w (cond b t u).artifacts
   kept-if w true t u is was = is
   kept-if w false t u is was = was
 
-  repeats-kept : (n : ℕ) (t : TaskState) → IsArtifactsOver f rules first records t.artifacts → IsKept t.artifacts (repeated_up_to n t).artifacts
+  repeats-kept : (n : ℕ) (t : TaskState) → IsArtifactsOver f rules first records t.artifacts → IsAsPrepared t.artifacts (repeated_up_to n t).artifacts
   unfolding repeated_up_to
   repeats-kept zero t is = record { artifacts = is; written = refl }
   repeats-kept (suc n) t is =
@@ -165,7 +165,7 @@ module _ (f : Function) (rules : RulesRecord) (first : ℕ) (records : List (Lis
       kept-if t.artifacts (asks_repeat t) (repeated_up_to n (repeated t)) t (record { artifacts = later.artifacts; written = later.written ∙ once.written }) (record { artifacts = is; written = refl })
 
   -- so do all of them
-  after-kept : (t : TaskState) → IsArtifactsOver f rules first records t.artifacts → IsKept t.artifacts (after_repeats t).artifacts
+  after-kept : (t : TaskState) → IsArtifactsOver f rules first records t.artifacts → IsAsPrepared t.artifacts (after_repeats t).artifacts
   unfolding all_repeated
   after-kept t is = repeats-kept (t.rules.retry_limit - t.row.retries) t is
 

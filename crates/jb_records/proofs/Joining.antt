@@ -6,7 +6,7 @@ use Rattle.std.specs.List.{filter_map, range_with_len, cons_option}
 use Rattle.jb_rules.specs.declared.row.Row.{Row}
 use Rattle.jb_records.specs.Function.{Function, all_results, result_of}
 use Rattle.jb_records.specs.Artifacts.{record_of, own_records, results_between}
-use Rattle.jb_records.specs.Shares.{AreShares, AreRowsInOrder, AreAtTheirEnds, SharesJoin, joined, results_so_far}
+use Rattle.jb_records.specs.PartitionResults.{ArePartitionResults, AreRowsInOrder, AreAtTheirEnds, PartitionResultsJoin, joined, results_so_far}
 use Rattle.jb_records.proofs.Going.{results-join}
 
 -- what agrees on a range of numbers gives the same list
@@ -56,18 +56,18 @@ no-results f records from to same =
     let none : to - from ≡ 0 = omega (arith, same) in
     ap (λ n. filter_map (λ k. result_of f (record_of 0 records k)) (range_with_len from n)) (sym none)
 
-shares-join : (f : Function) (records : List (List ℕ)) (from to : ℕ) (rows : List Row) (shares : List (List (List ℕ))) → AreRowsInOrder from to rows
-    → AreShares f records rows shares → AreAtTheirEnds rows → joined shares ≡ results_between f 0 records from to
-shares-join f records from to [] [] order are whole = no-results f records from to order
-shares-join f records from to [] (share ∷ shares) order are whole = absurd are
-shares-join f records from to (row ∷ rows) [] order are whole = absurd are
-shares-join f records from to (row ∷ rows) (share ∷ shares) order are whole =
+partition_results-join : (f : Function) (records : List (List ℕ)) (from to : ℕ) (rows : List Row) (partition_results : List (List (List ℕ))) → AreRowsInOrder from to rows
+    → ArePartitionResults f records rows partition_results → AreAtTheirEnds rows → joined partition_results ≡ results_between f 0 records from to
+partition_results-join f records from to [] [] order are whole = no-results f records from to order
+partition_results-join f records from to [] (share ∷ partition_results) order are whole = absurd are
+partition_results-join f records from to (row ∷ rows) [] order are whole = absurd are
+partition_results-join f records from to (row ∷ rows) (share ∷ partition_results) order are whole =
     let lo = order.0 in
     let here = order.1 in
     let later = order-rises row.hi to rows order.2 in
     let own : share ≡ results_between f 0 records from row.hi =
     are.0.results ∙ share-whole f records row (are.0.whole whole.0) (omega (arith, lo, here)) ∙ ap (λ a. results_between f 0 records a row.hi) lo in
-    let others = shares-join f records row.hi to rows shares order.2 are.1 whole.1 in
+    let others = partition_results-join f records row.hi to rows partition_results order.2 are.1 whole.1 in
     (λ i. own i ++ others i) ∙ results-join f 0 records from row.hi to here later
 
 whole-is-all : (f : Function) (records : List (List ℕ)) → results_between f 0 records 0 (length records) ≡ all_results f records
@@ -76,5 +76,5 @@ whole-is-all f records =
     let all : length records - 0 ≡ length records = omega arith in
     ap (λ n. filter_map (λ k. result_of f (record_of 0 records k)) (range_with_len 0 n)) all ∙ results-all f 0 records
 
-pub shares-are-joined : SharesJoin
-shares-are-joined f records rows shares so-far whole = shares-join f records 0 (length records) rows shares so-far.order so-far.each whole ∙ whole-is-all f records
+pub partition_results-are-joined : PartitionResultsJoin
+partition_results-are-joined f records rows partition_results so-far whole = partition_results-join f records 0 (length records) rows partition_results so-far.order so-far.each whole ∙ whole-is-all f records

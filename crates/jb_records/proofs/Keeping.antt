@@ -1,4 +1,4 @@
--- What is kept of a stretch: the results of the partitions that are finished, and what the others work with.
+-- What is kept of a interval: the results of the partitions that are finished, and what the others work with.
 use Rattle.std.proofs.Common.{◌≡◌, ℕ, zero, suc, ◌+◌, Bool, true, false, not, cond, List, [], ◌∷◌, map, Some, refl, ap, sym, subst, ◌∙◌, arith, eqb-true}
 use Rattle.std.specs.Prelude.{filter, nat_eq, slice_get}
 use Rattle.std.specs.List.{AllByRecursion, enumerate_from}
@@ -11,17 +11,17 @@ use Rattle.jb_rules.specs.declared.row.RowState.TheVariants as state
 use Rattle.jb_rules.specs.Rows.{dropped_row}
 use Rattle.jb_rules.specs.States.{is_failed, is_finished}
 use Rattle.jb_artifacts.specs.Meaning.{ArtifactsMeaning}
-use Rattle.jb_chunk.specs.Standing.{TaskState}
+use Rattle.jb_chunk.specs.TaskState.{TaskState}
 use Rattle.jb_saved.specs.GoingOn.{restarted}
 use Rattle.jb_step.specs.Answers.{artifacts_of, tasks_left}
 use Rattle.jb_step.specs.preparing.Setup.{Setup}
 use Rattle.jb_records.specs.Function.{Function}
 use Rattle.jb_records.specs.Runs.{HasResults}
-use Rattle.jb_records.specs.Shares.{AreShares, IsShare, newer_share, newer_shares, results_so_far}
+use Rattle.jb_records.specs.PartitionResults.{ArePartitionResults, IsPartitionResult, newer_share, newer_partition_results, results_so_far}
 use Rattle.jb_records.specs.Steps.{AreArtifacts, IsArtifactsFor}
-use Rattle.jb_records.specs.Stretches.{numbers_in, artifacts_in}
+use Rattle.jb_records.specs.Intervals.{numbers_in, artifacts_in}
 use Rattle.jb_records.specs.Artifacts.{IsArtifactsOver, own_records}
-use Rattle.jb_records.specs.inside.Kept.{is_done, is_left, is_over}
+use Rattle.jb_records.specs.inside.InMemory.{is_done, is_left, is_over}
 use Rattle.jb_records.proofs.Steps.{HaveResults, left-of}
 use Rattle.jb_records.proofs.Staying.{Stays, head-is, left-numbers, tail-is}
 
@@ -44,14 +44,14 @@ newer-over (a ∷ left) (w ∷ ws) p share same =
     over-by false false same others = others
 
 abbrev newer-from : List (ℕ × ArtifactsMeaning) → ℕ → List (List (List ℕ)) → List (List (List ℕ))
-newer-from left k shares = map (λ n. newer_share left n.0 n.1) (enumerate_from k shares)
+newer-from left k partition_results = map (λ n. newer_share left n.0 n.1) (enumerate_from k partition_results)
 
-all-over : (left ws : List (ℕ × ArtifactsMeaning)) (k : ℕ) (shares : List (List (List ℕ))) → numbers_in left ≡ numbers_in ws → newer-from left k (newer-from ws k shares) ≡ newer-from left k shares
+all-over : (left ws : List (ℕ × ArtifactsMeaning)) (k : ℕ) (partition_results : List (List (List ℕ))) → numbers_in left ≡ numbers_in ws → newer-from left k (newer-from ws k partition_results) ≡ newer-from left k partition_results
 all-over left ws k [] same = refl
-all-over left ws k (share ∷ shares) same = λ i. newer-over left ws k share same i ∷ all-over left ws (k + 1) shares same i
+all-over left ws k (share ∷ partition_results) same = λ i. newer-over left ws k share same i ∷ all-over left ws (k + 1) partition_results same i
 
-pub newer-again : (left ws : List (ℕ × ArtifactsMeaning)) (shares : List (List (List ℕ))) → numbers_in left ≡ numbers_in ws → newer_shares left (newer_shares ws shares) ≡ newer_shares left shares
-newer-again left ws shares same = all-over left ws 0 shares same
+pub newer-again : (left ws : List (ℕ × ArtifactsMeaning)) (partition_results : List (List (List ℕ))) → numbers_in left ≡ numbers_in ws → newer_partition_results left (newer_partition_results ws partition_results) ≡ newer_partition_results left partition_results
+newer-again left ws partition_results same = all-over left ws 0 partition_results same
 
 -- ---- THE FINISHED ONES APART
 
@@ -86,12 +86,12 @@ module _ (rows : List Row) where
       ∙ ap (λ x. cond (not (over p)) (newer_share left p x) x) (newer-of over left p share)
       ∙ (elim (over p) as (λ b. cond (not b) (newer_share left p (cond b (newer_share left p share) share)) (cond b (newer_share left p share) share) ≡ newer_share left p share) [ true ↦ refl | false ↦ refl ])
 
-  all-parts : (left : List (ℕ × ArtifactsMeaning)) (k : ℕ) (shares : List (List (List ℕ))) → newer-from (filter (is_left rows) left) k (newer-from (filter (is_done rows) left) k shares) ≡ newer-from left k shares
+  all-parts : (left : List (ℕ × ArtifactsMeaning)) (k : ℕ) (partition_results : List (List (List ℕ))) → newer-from (filter (is_left rows) left) k (newer-from (filter (is_done rows) left) k partition_results) ≡ newer-from left k partition_results
   all-parts left k [] = refl
-  all-parts left k (share ∷ shares) = λ i. part-newer left k share i ∷ all-parts left (k + 1) shares i
+  all-parts left k (share ∷ partition_results) = λ i. part-newer left k share i ∷ all-parts left (k + 1) partition_results i
 
-  pub newer-parts : (left : List (ℕ × ArtifactsMeaning)) (shares : List (List (List ℕ))) → newer_shares (filter (is_left rows) left) (newer_shares (filter (is_done rows) left) shares) ≡ newer_shares left shares
-  newer-parts left shares = all-parts left 0 shares
+  pub newer-parts : (left : List (ℕ × ArtifactsMeaning)) (partition_results : List (List (List ℕ))) → newer_partition_results (filter (is_left rows) left) (newer_partition_results (filter (is_done rows) left) partition_results) ≡ newer_partition_results left partition_results
+  newer-parts left partition_results = all-parts left 0 partition_results
 
 -- ---- WHAT THE OTHERS WORK WITH
 
@@ -152,16 +152,16 @@ module _ (f : Function) (records : List (List ℕ)) (s : Setup) (rows : List Row
   skip-one true n ls ns is are = are
   skip-one false n ls ns is are = let none : ⊥ = cc in absurd none
 
-  all-artifacts-by : (b : Bool) (k : ℕ) (old new : Row) (olds news : List Row) (share : List (List ℕ)) (ts : List TaskState) → is_finished old.state ≡ b
+  all-artifacts-by : (b : Bool) (k : ℕ) (old new : Row) (olds new_results : List Row) (share : List (List ℕ)) (ts : List TaskState) → is_finished old.state ≡ b
       → numbers_in (artifacts_of ts) ≡ map (λ n. n.0) (cond (not b) ((k, old) ∷ left-of (enumerate_from (k + 1) olds)) (left-of (enumerate_from (k + 1) olds)))
-      → Stays old new → IsShare f records new share → slice_get rows k ≡ Some new → slice_get all k ≡ Some share → AreDone f records s rows ts
-      → ((us : List TaskState) → numbers_in (artifacts_of us) ≡ left-numbers (k + 1) olds → AreDone f records s rows us → AreKept (filter (is_left rows) (artifacts_of us)) (left-of (enumerate_from (k + 1) (map restarted news))))
-      → AreKept (filter (is_left rows) (artifacts_of ts)) (left-of (enumerate_from k (map restarted (new ∷ news))))
-  all-artifacts-by true k old new olds news share ts is named stays own at there have more =
+      → Stays old new → IsPartitionResult f records new share → slice_get rows k ≡ Some new → slice_get all k ≡ Some share → AreDone f records s rows ts
+      → ((us : List TaskState) → numbers_in (artifacts_of us) ≡ left-numbers (k + 1) olds → AreDone f records s rows us → AreKept (filter (is_left rows) (artifacts_of us)) (left-of (enumerate_from (k + 1) (map restarted new_results))))
+      → AreKept (filter (is_left rows) (artifacts_of ts)) (left-of (enumerate_from k (map restarted (new ∷ new_results))))
+  all-artifacts-by true k old new olds new_results share ts is named stays own at there have more =
       let finished = finished-again new ∙ ap (λ (r : Row). is_finished r.state) (stays is) ∙ is in
-      skip-one (is_finished (restarted new).state) (k, restarted new) (filter (is_left rows) (artifacts_of ts)) (left-of (enumerate_from (k + 1) (map restarted news))) finished (more ts named have)
-  all-artifacts-by false k old new olds news share [] is named stays own at there have more = let none : ⊥ = cc in absurd none
-  all-artifacts-by false k old new olds news share (t ∷ ts) is named stays own at there have more =
+      skip-one (is_finished (restarted new).state) (k, restarted new) (filter (is_left rows) (artifacts_of ts)) (left-of (enumerate_from (k + 1) (map restarted new_results))) finished (more ts named have)
+  all-artifacts-by false k old new olds new_results share [] is named stays own at there have more = let none : ⊥ = cc in absurd none
+  all-artifacts-by false k old new olds new_results share (t ∷ ts) is named stays own at there have more =
       let ls = artifacts_of ts in
       let here = head-is t.partition k (numbers_in ls) (left-numbers (k + 1) olds) named in
       let others = more ts (tail-is t.partition k (numbers_in ls) (left-numbers (k + 1) olds) named) have.1 in
@@ -171,22 +171,22 @@ module _ (f : Function) (records : List (List ℕ)) (s : Setup) (rows : List Row
       let artifacts = artifacts-by f s records t.artifacts (is_failed new.state) new (subst (λ (rules : RulesRecord). IsArtifactsOver f rules new.lo (own_records records new) t.artifacts) have.0.rules kept) in
       let written : share ≡ t.artifacts.writer.written = own.results ∙ ap (λ (r : Row). results_so_far f records r) (sym row) ∙ sym has.results in
       let same = ap (λ p. not (is_over (slice_get rows p))) here ∙ ap (λ o. not (is_over o)) at ∙ ap not (sym (finished-again new)) in
-      kept-one (is_left rows (t.partition, t.artifacts)) (not (is_finished (restarted new).state)) (t.partition, t.artifacts) (k, restarted new) (filter (is_left rows) ls) (left-of (enumerate_from (k + 1) (map restarted news))) same here
+      kept-one (is_left rows (t.partition, t.artifacts)) (not (is_finished (restarted new).state)) (t.partition, t.artifacts) (k, restarted new) (filter (is_left rows) ls) (left-of (enumerate_from (k + 1) (map restarted new_results))) same here
       (artifacts, there ∙ ap Some written) others
 
-  pub artifacts-kept : (k : ℕ) (olds news : List Row) (shares : List (List (List ℕ))) (ts : List TaskState) → numbers_in (artifacts_of ts) ≡ left-numbers k olds → Pairwise Stays olds news → AreShares f records news shares
-      → ((i : ℕ) (row : Row) → slice_get news i ≡ Some row → slice_get rows (k + i) ≡ Some row) → ((i : ℕ) (share : List (List ℕ)) → slice_get shares i ≡ Some share → slice_get all (k + i) ≡ Some share)
+  pub artifacts-kept : (k : ℕ) (olds new_results : List Row) (partition_results : List (List (List ℕ))) (ts : List TaskState) → numbers_in (artifacts_of ts) ≡ left-numbers k olds → Pairwise Stays olds new_results → ArePartitionResults f records new_results partition_results
+      → ((i : ℕ) (row : Row) → slice_get new_results i ≡ Some row → slice_get rows (k + i) ≡ Some row) → ((i : ℕ) (share : List (List ℕ)) → slice_get partition_results i ≡ Some share → slice_get all (k + i) ≡ Some share)
       → AreDone f records s rows ts
-      → (numbers_in (filter (is_left rows) (artifacts_of ts)) ≡ left-numbers k (map restarted news)) × AreArtifacts f s.rules records all (left-of (enumerate_from k (map restarted news))) (artifacts_in (filter (is_left rows) (artifacts_of ts)))
-  artifacts-kept k [] [] shares [] named stay own at there have = (refl, tt)
-  artifacts-kept k [] [] shares (t ∷ ts) named stay own at there have = let none : ⊥ = cc in absurd none
-  artifacts-kept k [] (new ∷ news) shares ts named stay own at there have = absurd stay
-  artifacts-kept k (old ∷ olds) [] shares ts named stay own at there have = absurd stay
-  artifacts-kept k (old ∷ olds) (new ∷ news) [] ts named stay own at there have = absurd own
-  artifacts-kept k (old ∷ olds) (new ∷ news) (share ∷ shares) ts named stay own at there have =
+      → (numbers_in (filter (is_left rows) (artifacts_of ts)) ≡ left-numbers k (map restarted new_results)) × AreArtifacts f s.rules records all (left-of (enumerate_from k (map restarted new_results))) (artifacts_in (filter (is_left rows) (artifacts_of ts)))
+  artifacts-kept k [] [] partition_results [] named stay own at there have = (refl, tt)
+  artifacts-kept k [] [] partition_results (t ∷ ts) named stay own at there have = let none : ⊥ = cc in absurd none
+  artifacts-kept k [] (new ∷ new_results) partition_results ts named stay own at there have = absurd stay
+  artifacts-kept k (old ∷ olds) [] partition_results ts named stay own at there have = absurd stay
+  artifacts-kept k (old ∷ olds) (new ∷ new_results) [] ts named stay own at there have = absurd own
+  artifacts-kept k (old ∷ olds) (new ∷ new_results) (share ∷ partition_results) ts named stay own at there have =
       let first : k + 0 ≡ k = omega arith in
-      all-artifacts-by (is_finished old.state) k old new olds news share ts refl named stay.0 own.0
+      all-artifacts-by (is_finished old.state) k old new olds new_results share ts refl named stay.0 own.0
       (subst (λ m. slice_get rows m ≡ Some new) first (at zero new refl)) (subst (λ m. slice_get all m ≡ Some share) first (there zero share refl)) have
-      (λ us is has. artifacts-kept (k + 1) olds news shares us is stay.1 own.1
+      (λ us is has. artifacts-kept (k + 1) olds new_results partition_results us is stay.1 own.1
       (λ i r get. let e : k + suc i ≡ (k + 1) + i = omega arith in subst (λ m. slice_get rows m ≡ Some r) e (at (suc i) r get))
       (λ i x get. let e : k + suc i ≡ (k + 1) + i = omega arith in subst (λ m. slice_get all m ≡ Some x) e (there (suc i) x get)) has)

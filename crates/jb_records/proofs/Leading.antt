@@ -4,7 +4,7 @@ use Rattle.jb_base.specs.Rules.{RulesRecord}
 use Rattle.jb_chunk.specs.Alone.{IsOnTheWay, IsRunOf}
 use Rattle.jb_chunk.specs.Attempt.{AttemptEnd, again_of, end_of, ending_by}
 use Rattle.jb_chunk.specs.Laws.{RepeatsAreRetries, TasksStandAtCheckpoints, WaysJoin}
-use Rattle.jb_chunk.specs.Standing.{IsReady, TaskState}
+use Rattle.jb_chunk.specs.TaskState.{IsReady, TaskState}
 use Rattle.jb_slices.specs.Deciding.{FailsDont, SkipsPass}
 use Rattle.jb_records.specs.Following.{FollowsRules}
 use Rattle.jb_records.specs.Function.{Function, IsSteady}

@@ -27,6 +27,6 @@ mod Skipping
 mod Staying
 mod Steps
 mod Stopping
-mod Stretching
+mod RunningOn
 mod Telling
 mod Trying

@@ -93,7 +93,7 @@ processor_with f first records tries = record {
   faults = λ k. faulted_by (refusal_of f (record_of first records k)) (tries k);
 }
 
-module _ (f : Function) (first : ℕ) (records : List (List ℕ)) (n : ℕ) (outcome : Outcome) (built : Fields) (old new : FaultTable) (told : answered outcome built ≡ answer_for f (record_of first records n)) where
+module _ (f : Function) (first : ℕ) (records : List (List ℕ)) (n : ℕ) (outcome : Outcome) (built : Fields) (old new : FaultTable) (written_before : answered outcome built ≡ answer_for f (record_of first records n)) where
   abbrev with_tries : FaultTable → Processor
   with_tries tries = processor_with f first records tries
 
@@ -102,15 +102,15 @@ module _ (f : Function) (first : ℕ) (records : List (List ℕ)) (n : ℕ) (out
 
   pub answers : (found : Bool) → IsSettled outcome n old new found → (process_fault (with_tries old) n ≡ None) × (given_by found built ≡ result_of f (record_of first records n)) × (with_tries new ≡ after_process (with_tries old) n)
   answers found is =
-      let none : refusals n ≡ None = ap refusal_in (sym told) ∙ is.accepted built in (
+      let none : refusals n ≡ None = ap refusal_in (sym written_before) ∙ is.accepted built in (
         ap (λ o. live (faulted_by o (old n))) none ∙ is.still,
-        sym (is.given built) ∙ ap result_in told,
+        sym (is.given built) ∙ ap result_in written_before,
         ap with_tries is.used ∙ ap (λ plans. record (with_tries old) { faults = plans }) (faults-used refusals n old),
       )
 
   pub fails : (class : ClassId) → ((b : Fields) → Strikes (refusal_in (answered outcome b)) n old new class) → (process_fault (with_tries old) n ≡ Some class) × (with_tries new ≡ after_process (with_tries old) n)
   fails class strikes =
-      let both = struck refusals n old new class (subst (λ o. Strikes o n old new class) (ap refusal_in told) (strikes built)) in
+      let both = struck refusals n old new class (subst (λ o. Strikes o n old new class) (ap refusal_in written_before) (strikes built)) in
       (both.0, ap (λ plans. record (with_tries old) { faults = plans }) both.1)
 
 -- ---- WHAT A PARTITION BEGINS WITH

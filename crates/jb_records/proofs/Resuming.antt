@@ -10,21 +10,21 @@ use Rattle.jb_saved.specs.GoingOn.{restarted, rows_restarted}
 use Rattle.jb_saved.specs.Reading.{answer_of}
 use Rattle.jb_saved.specs.SavedRows.{SavedRows}
 use Rattle.jb_saved.specs.declared.place.SavedPlace.{SavedPlace}
-use Rattle.jb_records.specs.Earlier.{IsOfStoppedRun, IsStoppedRun}
+use Rattle.jb_records.specs.StoppedRuns.{HoldsStoppedRun, IsStoppedRun}
 use Rattle.jb_records.specs.Function.{Function}
-use Rattle.jb_records.specs.Shares.{AreRowsInOrder, AreNumbered, AreShares, IsShare, IsSoFar, joined}
+use Rattle.jb_records.specs.PartitionResults.{AreRowsInOrder, AreNumbered, ArePartitionResults, IsPartitionResult, IsSoFar, joined}
 
 -- ---- ROWS THAT GO ON
 
-share-again : (f : Function) (records : List (List ℕ)) (b : Bool) (row : Row) (share : List (List ℕ)) → IsShare f records row share → IsShare f records (cond b (dropped_row row) row) share
+share-again : (f : Function) (records : List (List ℕ)) (b : Bool) (row : Row) (share : List (List ℕ)) → IsPartitionResult f records row share → IsPartitionResult f records (cond b (dropped_row row) row) share
 share-again f records true row share is = record { results = is.results; number = is.number; whole = λ e. absurd cc }
 share-again f records false row share is = is
 
-shares-again : (f : Function) (records : List (List ℕ)) (rows : List Row) (shares : List (List (List ℕ))) → AreShares f records rows shares → AreShares f records (map restarted rows) shares
-shares-again f records [] [] are = tt
-shares-again f records [] (share ∷ shares) are = absurd are
-shares-again f records (row ∷ rows) [] are = absurd are
-shares-again f records (row ∷ rows) (share ∷ shares) are = (share-again f records (is_failed row.state) row share are.0, shares-again f records rows shares are.1)
+partition_results-again : (f : Function) (records : List (List ℕ)) (rows : List Row) (partition_results : List (List (List ℕ))) → ArePartitionResults f records rows partition_results → ArePartitionResults f records (map restarted rows) partition_results
+partition_results-again f records [] [] are = tt
+partition_results-again f records [] (share ∷ partition_results) are = absurd are
+partition_results-again f records (row ∷ rows) [] are = absurd are
+partition_results-again f records (row ∷ rows) (share ∷ partition_results) are = (share-again f records (is_failed row.state) row share are.0, partition_results-again f records rows partition_results are.1)
 
 first-again : (from to : ℕ) (b : Bool) (row : Row) (rows : List Row) → row.lo ≡ from → from ≤ row.hi → AreRowsInOrder row.hi to rows → AreRowsInOrder from to (cond b (dropped_row row) row ∷ rows)
 first-again from to true row rows lo hi order = (lo, hi, order)
@@ -35,16 +35,16 @@ order-again from to [] order = order
 order-again from to (row ∷ rows) order = first-again from to (is_failed row.state) row (map restarted rows) order.0 order.1 (order-again row.hi to rows order.2)
 
 -- a partition that failed waits at its checkpoint, with its share
-pub so-far-again : (f : Function) (records : List (List ℕ)) (held : SavedRows) (shares : List (List (List ℕ))) → IsSoFar f records held.rows shares → IsSoFar f records (rows_restarted held) shares
-so-far-again f records held shares so-far = record { order = order-again 0 (length records) held.rows so-far.order; each = shares-again f records held.rows shares so-far.each }
+pub so-far-again : (f : Function) (records : List (List ℕ)) (held : SavedRows) (partition_results : List (List (List ℕ))) → IsSoFar f records held.rows partition_results → IsSoFar f records (rows_restarted held) partition_results
+so-far-again f records held partition_results so-far = record { order = order-again 0 (length records) held.rows so-far.order; each = partition_results-again f records held.rows partition_results so-far.each }
 
 -- ---- THE SHARES ARE FOUND AGAIN
 
-pub numbered-so : (f : Function) (records : List (List ℕ)) (rows : List Row) (shares : List (List (List ℕ))) → AreShares f records rows shares → AreNumbered rows shares
+pub numbered-so : (f : Function) (records : List (List ℕ)) (rows : List Row) (partition_results : List (List (List ℕ))) → ArePartitionResults f records rows partition_results → AreNumbered rows partition_results
 numbered-so f records [] [] are = tt
-numbered-so f records [] (share ∷ shares) are = absurd are
+numbered-so f records [] (share ∷ partition_results) are = absurd are
 numbered-so f records (row ∷ rows) [] are = absurd are
-numbered-so f records (row ∷ rows) (share ∷ shares) are = (are.0.number, numbered-so f records rows shares are.1)
+numbered-so f records (row ∷ rows) (share ∷ partition_results) are = (are.0.number, numbered-so f records rows partition_results are.1)
 
 same-front : {A : Type 0} (a b x y : List A) → length a ≡ length b → a ++ x ≡ b ++ y → a ≡ b
 same-front a b x y long e = sym (take-append_seam a x) ∙ ap (take (length a)) e ∙ ap (λ n. take n (b ++ y)) long ∙ take-append_seam b y
@@ -53,28 +53,28 @@ same-back : {A : Type 0} (a b x y : List A) → length a ≡ length b → a ++ x
 same-back a b x y long e = sym (drop-append_seam a x) ∙ ap (drop (length a)) e ∙ ap (λ n. drop n (b ++ y)) long ∙ drop-append_seam b y
 
 -- joined shares come apart in one way only
-same-shares : (rows : List Row) (shares others : List (List (List ℕ))) → AreNumbered rows shares → AreNumbered rows others → joined shares ≡ joined others → shares ≡ others
-same-shares [] [] [] are were e = refl
-same-shares [] [] (other ∷ others) are were e = absurd were
-same-shares [] (share ∷ shares) others are were e = absurd are
-same-shares (row ∷ rows) [] others are were e = absurd are
-same-shares (row ∷ rows) (share ∷ shares) [] are were e = absurd were
-same-shares (row ∷ rows) (share ∷ shares) (other ∷ others) are were e =
+same-partition_results : (rows : List Row) (partition_results others : List (List (List ℕ))) → AreNumbered rows partition_results → AreNumbered rows others → joined partition_results ≡ joined others → partition_results ≡ others
+same-partition_results [] [] [] are were e = refl
+same-partition_results [] [] (other ∷ others) are were e = absurd were
+same-partition_results [] (share ∷ partition_results) others are were e = absurd are
+same-partition_results (row ∷ rows) [] others are were e = absurd are
+same-partition_results (row ∷ rows) (share ∷ partition_results) [] are were e = absurd were
+same-partition_results (row ∷ rows) (share ∷ partition_results) (other ∷ others) are were e =
     let long = are.0 ∙ sym were.0 in
-    let front = same-front share other (joined shares) (joined others) long e in
-    let back = same-back share other (joined shares) (joined others) long e in
-    ap (λ s. s ∷ shares) front ∙ ap (λ ss. other ∷ ss) (same-shares rows shares others are.1 were.1 back)
+    let front = same-front share other (joined partition_results) (joined others) long e in
+    let back = same-back share other (joined partition_results) (joined others) long e in
+    ap (λ s. s ∷ partition_results) front ∙ ap (λ ss. other ∷ ss) (same-partition_results rows partition_results others are.1 were.1 back)
 
 held-rows : (saved : Option SavedRows) (held : SavedRows) (rows : List Row) → saved ≡ Some held → IfSome saved (λ s. rows ≡ rows_restarted s) → rows ≡ rows_restarted held
 held-rows saved held rows given are = subst (λ (o : Option SavedRows). IfSome o (λ s. rows ≡ rows_restarted s)) given are
 
-pub going-on : (f : Function) (records : List (List ℕ)) (saved : Option SavedRows) (earlier : List (List ℕ)) (rows : List Row) (shares : List (List (List ℕ))) → IsStoppedRun f records saved earlier
-    → IfSome saved (λ held. rows ≡ rows_restarted held) → AreNumbered rows shares → joined shares ≡ earlier → IsSoFar f records rows shares
-going-on f records saved earlier rows shares stopped are numbered whole =
+pub going-on : (f : Function) (records : List (List ℕ)) (saved : Option SavedRows) (earlier : List (List ℕ)) (rows : List Row) (partition_results : List (List (List ℕ))) → IsStoppedRun f records saved earlier
+    → IfSome saved (λ held. rows ≡ rows_restarted held) → AreNumbered rows partition_results → joined partition_results ≡ earlier → IsSoFar f records rows partition_results
+going-on f records saved earlier rows partition_results stopped are numbered whole =
     let same-rows = held-rows saved stopped.held rows stopped.given are in
-    let so-far : IsSoFar f records rows stopped.shares =
-    subst (λ (rs : List Row). IsSoFar f records rs stopped.shares) (sym same-rows) (so-far-again f records stopped.held stopped.shares stopped.so_far) in
-    let same = same-shares rows stopped.shares shares (numbered-so f records rows stopped.shares so-far.each) numbered (stopped.results ∙ sym whole) in
+    let so-far : IsSoFar f records rows stopped.partition_results =
+    subst (λ (rs : List Row). IsSoFar f records rs stopped.partition_results) (sym same-rows) (so-far-again f records stopped.held stopped.partition_results stopped.so_far) in
+    let same = same-partition_results rows stopped.partition_results partition_results (numbered-so f records rows stopped.partition_results so-far.each) numbered (stopped.results ∙ sym whole) in
     subst (IsSoFar f records rows) same so-far
 
 -- ---- A SAVED TEXT
@@ -83,12 +83,12 @@ pub same-held : (o : Result SavedRows SavedPlace) (held other : SavedRows) → o
 same-held o held other a b = cc
 
 -- a text is read in one way only
-pub stopped-run : (f : Function) (records : List (List ℕ)) (text : List ℕ) (held : SavedRows) (earlier : List (List ℕ)) → answer_of (tree_of text) ≡ Ok held → IsOfStoppedRun f records text earlier
+pub stopped-run : (f : Function) (records : List (List ℕ)) (text : List ℕ) (held : SavedRows) (earlier : List (List ℕ)) → answer_of (tree_of text) ≡ Ok held → HoldsStoppedRun f records text earlier
     → IsStoppedRun f records (Some held) earlier
 stopped-run f records text held earlier read stopped = record {
   held = stopped.held;
   given = ap Some (same-held _ held stopped.held read stopped.read);
-  shares = stopped.shares;
+  partition_results = stopped.partition_results;
   so_far = stopped.so_far;
   results = stopped.results;
 }

@@ -6,12 +6,12 @@ use Rattle.std.proofs.lemmas.Bool.Decides.{nat_tests}
 use Rattle.jb_base.specs.Pairwise.{Pairwise}
 use Rattle.jb_rules.specs.declared.row.Row.{Row}
 use Rattle.jb_rules.specs.States.{is_finished}
-use Rattle.jb_chunk.specs.Standing.{TaskState}
+use Rattle.jb_chunk.specs.TaskState.{TaskState}
 use Rattle.jb_step.specs.Alone.{AreOnTheWay}
 use Rattle.jb_step.specs.Answers.{artifacts_of}
 use Rattle.jb_step.specs.preparing.Setup.{row_now}
 use Rattle.jb_records.specs.Runs.{PartsStay}
-use Rattle.jb_records.specs.Stretches.{numbers_in}
+use Rattle.jb_records.specs.Intervals.{numbers_in}
 use Rattle.jb_records.proofs.Steps.{left-of}
 
 -- ---- THE NUMBERS OF THE UNFINISHED PARTITIONS

@@ -12,12 +12,12 @@ use Rattle.jb_rules.specs.Rows.{fresh_row}
 use Rattle.jb_rules.specs.declared.row.RowState.{RowState}
 use Rattle.jb_rules.specs.States.{is_failed, is_finished}
 use Rattle.jb_artifacts.specs.Meaning.{ArtifactsMeaning}
-use Rattle.jb_chunk.specs.Standing.{IsReady, TaskState, started}
+use Rattle.jb_chunk.specs.TaskState.{IsReady, TaskState, started}
 use Rattle.jb_collect.specs.declared.calls.AnalyzerCall.{AnalyzerCall}
 use Rattle.jb_collect.specs.declared.calls.ReducerCall.{ReducerCall}
 use Rattle.jb_collect.specs.declared.calls.Status.{Status}
 use Rattle.jb_collect.specs.declared.calls.Status.TheVariants as status
-use Rattle.jb_collect.specs.Taken.{Taken, since, well}
+use Rattle.jb_collect.specs.AnsweredCalls.{AnsweredCall, since, well}
 use Rattle.jb_step.specs.callbacks.Callbacks.{has_fault}
 use Rattle.jb_step.specs.Answers.{IsRunOfStep, IsStatus, StepRun, artifacts_of, tasks_after, tasks_before}
 use Rattle.jb_step.specs.Statuses.{status_of}
@@ -27,15 +27,15 @@ use Rattle.jb_step.specs.preparing.Setup.{IsSetup, Setup, first_tasks, fresh_row
 use Rattle.jb_step.specs.Alone.{AreOnTheWay}
 use Rattle.jb_records.specs.Function.{Function, result_of}
 use Rattle.jb_records.specs.Runs.{HasResults, PartsStay, ResultsGoOn}
-use Rattle.jb_records.specs.Shares.{AreRowsInOrder, AreNumbered, AreRangesOf, AreShares, AreAtTheirEnds, IsShare, IsSoFar, NewStepsBegin, newer_share, newer_shares}
-use Rattle.jb_records.specs.Steps.{AreArtifacts, BeginsAnew, StepsKeepResults}
+use Rattle.jb_records.specs.PartitionResults.{AreRowsInOrder, AreNumbered, AreRangesOf, ArePartitionResults, AreAtTheirEnds, IsPartitionResult, IsSoFar, NewStepsBegin, newer_share, newer_partition_results}
+use Rattle.jb_records.specs.Steps.{AreArtifacts, StartsFresh, StepsKeepResults}
 use Rattle.jb_records.specs.Artifacts.{IsArtifactsOver, own_records, record_of, results_between}
 use Rattle.jb_records.proofs.Going.{ends-at}
 
 -- ---- HOW THE PARTITIONS BEGIN
 
 begun-task : (f : Function) (records : List (List ℕ)) (p item_count : ℕ) (row : Row) (s : Setup) (w : ArtifactsMeaning) → IsArtifactsOver f s.rules row.lo (own_records records row) w
-    → IsShare f records row w.writer.written → IsReady (started p row s.rules item_count w) → HasResults f records (started p row s.rules item_count w)
+    → IsPartitionResult f records row w.writer.written → IsReady (started p row s.rules item_count w) → HasResults f records (started p row s.rules item_count w)
 begun-task f records p item_count row s w artifacts share ready =
     let cut : take row.written w.writer.written ≡ w.writer.written = ap (λ n. take n w.writer.written) (sym share.number) ∙ take-length w.writer.written in
     record {
@@ -64,33 +64,33 @@ first-ruled s [] artifacts = tt
 first-ruled s (n ∷ ns) [] = tt
 first-ruled s (n ∷ ns) (w ∷ ws) = (refl, first-ruled s ns ws)
 
-abbrev Begin : (f : Function) (records : List (List ℕ)) → (shares : List (List (List ℕ))) → Setup → List (ℕ × Row) → List ArtifactsMeaning → Type 0
-Begin f records shares s ns artifacts = AreArtifacts f s.rules records shares ns artifacts → AreTasksOf s (tasks-of s ns artifacts) → HaveResults f records (tasks-of s ns artifacts)
+abbrev Begin : (f : Function) (records : List (List ℕ)) → (partition_results : List (List (List ℕ))) → Setup → List (ℕ × Row) → List ArtifactsMeaning → Type 0
+Begin f records partition_results s ns artifacts = AreArtifacts f s.rules records partition_results ns artifacts → AreTasksOf s (tasks-of s ns artifacts) → HaveResults f records (tasks-of s ns artifacts)
 
 same-share : (o : Option (List (List ℕ))) (share other : List (List ℕ)) → o ≡ Some share → o ≡ Some other → share ≡ other
 same-share o share other a b = cc
 
-first-begun : (f : Function) (records : List (List ℕ)) (shares : List (List (List ℕ))) (s : Setup) (n : ℕ × Row) (share : List (List ℕ)) (ns : List (ℕ × Row)) (b : Bool) (artifacts : List ArtifactsMeaning)
-    → slice_get shares n.0 ≡ Some share → IsShare f records n.1 share → ((ws : List ArtifactsMeaning) → Begin f records shares s ns ws) → Begin f records shares s (cond b (n ∷ ns) ns) artifacts
-first-begun f records shares s n share ns false artifacts at is others are ready = others artifacts are ready
-first-begun f records shares s n share ns true [] at is others are ready = absurd are
-first-begun f records shares s n share ns true (w ∷ ws) at is others are ready =
-    let own = subst (IsShare f records n.1) (same-share (slice_get shares n.0) share w.writer.written at are.0.1) is in
+first-begun : (f : Function) (records : List (List ℕ)) (partition_results : List (List (List ℕ))) (s : Setup) (n : ℕ × Row) (share : List (List ℕ)) (ns : List (ℕ × Row)) (b : Bool) (artifacts : List ArtifactsMeaning)
+    → slice_get partition_results n.0 ≡ Some share → IsPartitionResult f records n.1 share → ((ws : List ArtifactsMeaning) → Begin f records partition_results s ns ws) → Begin f records partition_results s (cond b (n ∷ ns) ns) artifacts
+first-begun f records partition_results s n share ns false artifacts at is others are ready = others artifacts are ready
+first-begun f records partition_results s n share ns true [] at is others are ready = absurd are
+first-begun f records partition_results s n share ns true (w ∷ ws) at is others are ready =
+    let own = subst (IsPartitionResult f records n.1) (same-share (slice_get partition_results n.0) share w.writer.written at are.0.1) is in
     (begun-task f records n.0 s.item_count n.1 s w are.0.0 own ready.0.0, others ws are.1 ready.1)
 
-none-begun : (f : Function) (records : List (List ℕ)) (shares : List (List (List ℕ))) (s : Setup) (artifacts : List ArtifactsMeaning) → Begin f records shares s [] artifacts
-none-begun f records shares s [] are ready = tt
-none-begun f records shares s (w ∷ ws) are ready = absurd are
+none-begun : (f : Function) (records : List (List ℕ)) (partition_results : List (List (List ℕ))) (s : Setup) (artifacts : List ArtifactsMeaning) → Begin f records partition_results s [] artifacts
+none-begun f records partition_results s [] are ready = tt
+none-begun f records partition_results s (w ∷ ws) are ready = absurd are
 
-pub all-begun : (f : Function) (records : List (List ℕ)) (all : List (List (List ℕ))) (s : Setup) (k : ℕ) (rows : List Row) (shares : List (List (List ℕ))) (artifacts : List ArtifactsMeaning)
-    → AreShares f records rows shares → ((i : ℕ) (share : List (List ℕ)) → slice_get shares i ≡ Some share → slice_get all (k + i) ≡ Some share)
+pub all-begun : (f : Function) (records : List (List ℕ)) (all : List (List (List ℕ))) (s : Setup) (k : ℕ) (rows : List Row) (partition_results : List (List (List ℕ))) (artifacts : List ArtifactsMeaning)
+    → ArePartitionResults f records rows partition_results → ((i : ℕ) (share : List (List ℕ)) → slice_get partition_results i ≡ Some share → slice_get all (k + i) ≡ Some share)
     → Begin f records all s (left-of (enumerate_from k rows)) artifacts
-all-begun f records all s k [] shares artifacts have at are ready = none-begun f records all s artifacts are ready
+all-begun f records all s k [] partition_results artifacts have at are ready = none-begun f records all s artifacts are ready
 all-begun f records all s k (row ∷ rows) [] artifacts have at are ready = absurd have
-all-begun f records all s k (row ∷ rows) (share ∷ shares) artifacts have at are ready =
+all-begun f records all s k (row ∷ rows) (share ∷ partition_results) artifacts have at are ready =
     first-begun f records all s (k, row) share (left-of (enumerate_from (k + 1) rows)) (not (is_finished row.state)) artifacts
     (let e : k + 0 ≡ k = omega arith in subst (λ m. slice_get all m ≡ Some share) e (at zero share refl)) have.0
-    (λ ws. all-begun f records all s (k + 1) rows shares ws have.1 (λ i x get. let e : k + suc i ≡ (k + 1) + i = omega arith in subst (λ m. slice_get all m ≡ Some x) e (at (suc i) x get)))
+    (λ ws. all-begun f records all s (k + 1) rows partition_results ws have.1 (λ i x get. let e : k + suc i ≡ (k + 1) + i = omega arith in subst (λ m. slice_get all m ≡ Some x) e (at (suc i) x get)))
     are ready
 
 -- ---- WHERE THEY ARE LED
@@ -102,22 +102,22 @@ kept-by law f records s (t ∷ ts) [] ready have ways = absurd ways
 kept-by law f records s (t ∷ ts) (x ∷ xs) ready have ways = (law f records t x ready.0.0 have.0 ways.0, kept-by law f records s ts xs ready.1 have.1 ways.1)
 
 -- each partition has its new share, or the one that it had
-newer-by : (f : Function) (records : List (List ℕ)) (t : TaskState) (b : Bool) (row : Row) (share : List (List ℕ)) → HasResults f records t → IsShare f records row share
-    → IsShare f records (cond b t.row row) (cond b t.artifacts.writer.written share)
+newer-by : (f : Function) (records : List (List ℕ)) (t : TaskState) (b : Bool) (row : Row) (share : List (List ℕ)) → HasResults f records t → IsPartitionResult f records row share
+    → IsPartitionResult f records (cond b t.row row) (cond b t.artifacts.writer.written share)
 newer-by f records t true row share has is = record { results = has.results; number = has.number; whole = has.whole }
 newer-by f records t false row share has is = is
 
 newer-is : (f : Function) (records : List (List ℕ)) (now : List TaskState) (p : ℕ) (row : Row) (share : List (List ℕ)) → HaveResults f records now
-    → IsShare f records row share → IsShare f records (row_now now p row) (newer_share (artifacts_of now) p share)
+    → IsPartitionResult f records row share → IsPartitionResult f records (row_now now p row) (newer_share (artifacts_of now) p share)
 newer-is f records [] p row share have is = is
 newer-is f records (t ∷ now) p row share have is = newer-by f records t (nat_eq t.partition p) _ _ have.0 (newer-is f records now p row share have.1 is)
 
-newer-all : (f : Function) (records : List (List ℕ)) (now : List TaskState) (k : ℕ) (rows : List Row) (shares : List (List (List ℕ))) → HaveResults f records now → AreShares f records rows shares
-    → AreShares f records (map (λ n. row_now now n.0 n.1) (enumerate_from k rows)) (map (λ n. newer_share (artifacts_of now) n.0 n.1) (enumerate_from k shares))
+newer-all : (f : Function) (records : List (List ℕ)) (now : List TaskState) (k : ℕ) (rows : List Row) (partition_results : List (List (List ℕ))) → HaveResults f records now → ArePartitionResults f records rows partition_results
+    → ArePartitionResults f records (map (λ n. row_now now n.0 n.1) (enumerate_from k rows)) (map (λ n. newer_share (artifacts_of now) n.0 n.1) (enumerate_from k partition_results))
 newer-all f records now k [] [] have are = tt
-newer-all f records now k [] (share ∷ shares) have are = absurd are
+newer-all f records now k [] (share ∷ partition_results) have are = absurd are
 newer-all f records now k (row ∷ rows) [] have are = absurd are
-newer-all f records now k (row ∷ rows) (share ∷ shares) have are = (newer-is f records now k row share have are.0, newer-all f records now (k + 1) rows shares have are.1)
+newer-all f records now k (row ∷ rows) (share ∷ partition_results) have are = (newer-is f records now k row share have are.0, newer-all f records now (k + 1) rows partition_results have are.1)
 
 -- ---- THE RANGES STAY IN THEIR ORDER
 
@@ -153,14 +153,14 @@ order-kept law ts now k from to (row ∷ rows) ways order =
 
 -- ---- A WHOLE RUN
 
-pub shares-kept : ResultsGoOn → PartsStay → BeginsWithTasks → BeginsWithRows → StepsKeepResults
-shares-kept law parts begins same f records shares s artifacts ends is fit are ways so-far =
+pub partition_results-kept : ResultsGoOn → PartsStay → BeginsWithTasks → BeginsWithRows → StepsKeepResults
+partition_results-kept law parts begins same f records partition_results s artifacts ends is fit are ways so-far =
     let ready = (begins s artifacts is fit).tasks in
     let ts = first_tasks s artifacts in
-    let begun = all-begun f records shares s 0 s.rows shares artifacts so-far.each (λ i share get. let e : i ≡ 0 + i = omega arith in subst (λ m. slice_get shares m ≡ Some share) e get) are ready in
+    let begun = all-begun f records partition_results s 0 s.rows partition_results artifacts so-far.each (λ i share get. let e : i ≡ 0 + i = omega arith in subst (λ m. slice_get partition_results m ≡ Some share) e get) are ready in
     let have : HaveResults f records ends = kept-by law f records s ts ends ready begun ways in
     let order : AreRowsInOrder 0 (length records) (rows_now s.rows ts) = subst (AreRowsInOrder 0 (length records)) (sym (same s artifacts fit)) so-far.order in
-    record { order = order-kept parts ts ends 0 0 (length records) s.rows ways order; each = newer-all f records ends 0 s.rows shares have so-far.each }
+    record { order = order-kept parts ts ends 0 0 (length records) s.rows ways order; each = newer-all f records ends 0 s.rows partition_results have so-far.each }
 
 -- ---- A STEP THAT BEGINS ANEW
 
@@ -174,41 +174,41 @@ nothing : (share : List (List ℕ)) → length share ≡ 0 → share ≡ []
 nothing [] e = refl
 nothing (x ∷ xs) e = absurd (omega (arith, e))
 
-new-share : (f : Function) (records : List (List ℕ)) (r : Range) (share : List (List ℕ)) → length share ≡ 0 → IsShare f records (fresh_row r) share
+new-share : (f : Function) (records : List (List ℕ)) (r : Range) (share : List (List ℕ)) → length share ≡ 0 → IsPartitionResult f records (fresh_row r) share
 new-share f records r share none = record {
   results = nothing share none ∙ sym (no-results f r.lo (own_records records (fresh_row r)) r.lo);
   number = none;
   whole = ends-at (r.lo == r.hi) r.lo r.hi refl;
 }
 
-new-shares : (f : Function) (records : List (List ℕ)) (ranges : List Range) (shares : List (List (List ℕ))) → AreNumbered (fresh_rows ranges) shares → AreShares f records (fresh_rows ranges) shares
-new-shares f records [] [] are = tt
-new-shares f records [] (share ∷ shares) are = absurd are
-new-shares f records (r ∷ rs) [] are = absurd are
-new-shares f records (r ∷ rs) (share ∷ shares) are = (new-share f records r share are.0, new-shares f records rs shares are.1)
+new-partition_results : (f : Function) (records : List (List ℕ)) (ranges : List Range) (partition_results : List (List (List ℕ))) → AreNumbered (fresh_rows ranges) partition_results → ArePartitionResults f records (fresh_rows ranges) partition_results
+new-partition_results f records [] [] are = tt
+new-partition_results f records [] (share ∷ partition_results) are = absurd are
+new-partition_results f records (r ∷ rs) [] are = absurd are
+new-partition_results f records (r ∷ rs) (share ∷ partition_results) are = (new-share f records r share are.0, new-partition_results f records rs partition_results are.1)
 
 new-order : (from to : ℕ) (ranges : List Range) → AreRangesOf from to ranges → AreRowsInOrder from to (fresh_rows ranges)
 new-order from to [] order = order
 new-order from to (r ∷ rs) order = (order.0, order.1, new-order r.hi to rs order.2)
 
 pub steps-begin : NewStepsBegin
-steps-begin f records ranges shares order are = record { order = new-order 0 (length records) ranges order; each = new-shares f records ranges shares are }
+steps-begin f records ranges partition_results order are = record { order = new-order 0 (length records) ranges order; each = new-partition_results f records ranges partition_results are }
 
 -- with as many results as its rows say
-pub begun-anew : NewStepsBegin → (f : Function) (records : List (List ℕ)) (s : Setup) (shares : List (List (List ℕ))) → BeginsAnew (length records) s → AreNumbered s.rows shares → IsSoFar f records s.rows shares
-begun-anew law f records s shares anew are =
-    subst (λ (rows : List Row). IsSoFar f records rows shares) (sym anew.rows) (law f records anew.ranges shares anew.order (subst (λ (rows : List Row). AreNumbered rows shares) anew.rows are))
+pub begun-anew : NewStepsBegin → (f : Function) (records : List (List ℕ)) (s : Setup) (partition_results : List (List (List ℕ))) → StartsFresh (length records) s → AreNumbered s.rows partition_results → IsSoFar f records s.rows partition_results
+begun-anew law f records s partition_results anew are =
+    subst (λ (rows : List Row). IsSoFar f records rows partition_results) (sym anew.rows) (law f records anew.ranges partition_results anew.order (subst (λ (rows : List Row). AreNumbered rows partition_results) anew.rows are))
 
 -- ---- HOW IT ENDS
 
 -- a run of the step leaves its partitions so far, if they were so when it began
-pub led : StepsKeepResults → (f : Function) (records : List (List ℕ)) (shares : List (List (List ℕ))) (r : StepRun) → IsRunOfStep r → AreArtifacts f r.setup.rules records shares (unfinished r.setup.rows) r.artifacts → DoFit r.setup r.artifacts
-    → AreOnTheWay (tasks_before r) (tasks_after r) → IsSetup r.setup → IsSoFar f records r.setup.rows shares → IsSoFar f records r.snapshot.rows.items (newer_shares r.left shares)
-led kept f records shares r run are fit ways is so-far =
+pub led : StepsKeepResults → (f : Function) (records : List (List ℕ)) (partition_results : List (List (List ℕ))) (r : StepRun) → IsRunOfStep r → AreArtifacts f r.setup.rules records partition_results (unfinished r.setup.rows) r.artifacts → DoFit r.setup r.artifacts
+    → AreOnTheWay (tasks_before r) (tasks_after r) → IsSetup r.setup → IsSoFar f records r.setup.rows partition_results → IsSoFar f records r.snapshot.rows.items (newer_partition_results r.left partition_results)
+led kept f records partition_results r run are fit ways is so-far =
     let ends = sym run.tasks in
-    subst (λ (rows : List Row). IsSoFar f records rows (newer_shares r.left shares)) (sym (run.rows ∙ ap (rows_now r.setup.rows) ends))
-    (subst (λ (left : List (ℕ × ArtifactsMeaning)). IsSoFar f records (rows_now r.setup.rows (tasks_after r)) (newer_shares left shares)) (sym (run.came_back ∙ ap artifacts_of ends))
-    (kept f records shares r.setup r.artifacts (tasks_after r) is fit are ways so-far))
+    subst (λ (rows : List Row). IsSoFar f records rows (newer_partition_results r.left partition_results)) (sym (run.rows ∙ ap (rows_now r.setup.rows) ends))
+    (subst (λ (left : List (ℕ × ArtifactsMeaning)). IsSoFar f records (rows_now r.setup.rows (tasks_after r)) (newer_partition_results left partition_results)) (sym (run.came_back ∙ ap artifacts_of ends))
+    (kept f records partition_results r.setup r.artifacts (tasks_after r) is fit are ways so-far))
 
 finished-is : (st : RowState) → not (is_finished st) ≡ false → st ≡ state.Finished
 finished-is state.Waiting e = absurd cc
@@ -239,7 +239,7 @@ well-faults zero (call ∷ calls) = well-faults zero calls
 well-faults (suc n) (call ∷ calls) = well-faults n calls
 
 -- so the status is that of the rows
-pub stands : (snapshot : Snapshot) (heard : List (Taken AnalyzerCall)) (reduced : List (Taken ReducerCall)) (more : List AnalyzerCall) (after : List ReducerCall) (now : Status)
+pub stands : (snapshot : Snapshot) (heard : List (AnsweredCall AnalyzerCall)) (reduced : List (AnsweredCall ReducerCall)) (more : List AnalyzerCall) (after : List ReducerCall) (now : Status)
     → IsStatus snapshot (since heard (map well more)) (since reduced (map well after)) now → now ≡ status_of snapshot.rows.items false
 stands snapshot heard reduced more after now is =
-    is ∙ ap₂ (λ told answered. status_of snapshot.rows.items (told || answered)) (well-faults (length heard) more) (well-faults (length reduced) after)
+    is ∙ ap₂ (λ written_before answered. status_of snapshot.rows.items (written_before || answered)) (well-faults (length heard) more) (well-faults (length reduced) after)

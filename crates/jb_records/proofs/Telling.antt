@@ -9,9 +9,9 @@ use Rattle.jb_rules.specs.declared.row.Row.{Row}
 pub one-more : {A : Type 0} (xs : List A) (i : ℕ) (x : A) → slice_get xs i ≡ Some x → take (i + 1) xs ≡ take i xs ++ x ∷ []
 one-more xs i x at = take_more xs i x (slice_get_within xs i x at) ∙ ap (λ y. take i xs ++ y ∷ []) (get_or_from_slice_get xs i x x at)
 
-pub told-more : (rows : List Row) (p : ℕ) (row : Row) (told now : List ℕ) → slice_get rows p ≡ Some row → told ≡ map (λ row. row.written) (take p rows) → now ≡ told ++ row.written ∷ []
+pub written_before-more : (rows : List Row) (p : ℕ) (row : Row) (written_before now : List ℕ) → slice_get rows p ≡ Some row → written_before ≡ map (λ row. row.written) (take p rows) → now ≡ written_before ++ row.written ∷ []
     → now ≡ map (λ row. row.written) (take (p + 1) rows)
-told-more rows p row told now at is made =
+written_before-more rows p row written_before now at is made =
     made
     ∙ ap (λ ns. ns ++ row.written ∷ []) is
     ∙ sym (map-append (λ (r : Row). r.written) (take p rows) (row ∷ []))

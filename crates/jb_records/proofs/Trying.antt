@@ -53,10 +53,10 @@ its-plan f first records i k bytes is e =
 pub one-more : (f : Function) (first : ℕ) (records : List (List ℕ)) (i : ℕ) (bytes : List ℕ) (classes : List ClassId) (plans now : FaultTable) → bytes ≡ slice_index_or records i []
     → classes ≡ tries_of f bytes → ((k : ℕ) → now k ≡ with_plan plans (first + i) (plan_of classes) k) → ((k : ℕ) → plans k ≡ tries-of f first records i k)
     → (k : ℕ) → now k ≡ tries-of f first records (i + 1) k
-one-more f first records i bytes classes plans now is told put before k =
+one-more f first records i bytes classes plans now is written_before put before k =
     put k ∙ ap (cond (k == first + i) (plan_of classes)) (before k)
     ∙ more-by first i k (plan_of classes) (plan_of (tries_of f (record_of first records k))) (k == first + i) refl
-    (λ e. ap plan_of (told ∙ its-plan f first records i k bytes is e))
+    (λ e. ap plan_of (written_before ∙ its-plan f first records i k bytes is e))
 
 -- all of them
 pub all-tries : (f : Function) (first : ℕ) (records : List (List ℕ)) (count : ℕ) (plans : FaultTable) → count ≡ length records → ((k : ℕ) → plans k ≡ tries-of f first records count k)

@@ -44,7 +44,7 @@ tries_plan f first records k = if is_among first (length records) k then plan_of
 abbrev pub own_records : (records : List (List ℕ)) → Row → List (List ℕ)
 own_records records row = slice_range records row.lo row.hi
 
--- when the processing of a record fails: each time, if it is refused; and else by the tries at it
+-- when the processing of a record fails: each time, if it is refused; otherwise by the tries at it
 abbrev pub faulted_by : (refusal : Option ClassId) → (tries : FaultPlan) → FaultPlan
 faulted_by None tries = tries
 faulted_by (Some class) tries = Bad class
@@ -53,8 +53,8 @@ abbrev pub IsFaulted : RulesRecord → (refusal : Option ClassId) → FaultPlan 
 IsFaulted rules None plan = IsNeverSkipped rules plan
 IsFaulted rules (Some class) plan = plan ≡ Bad class
 
--- Its reader has these records, from the number `first` on, and no read fails. A record's answer is the function's, and one that is refused
--- fails each time that it is processed; no fault of a try is skipped, and a steady function has none; no write fails.
+-- Its reader has these records, from the number `first` on, and no read fails. A record's answer is the function's, and a refused one fails
+-- each time that it is processed. No fault of a try is skipped, and a steady function has none. No write fails.
 pub record IsArtifactsOver (f : Function) (rules : RulesRecord) (first : ℕ) (records : List (List ℕ)) (w : ArtifactsMeaning) : Type 0 where
   pub first_is : w.reader.first ≡ first
   pub records_are : w.reader.records ≡ records

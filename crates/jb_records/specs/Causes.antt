@@ -17,10 +17,10 @@ use Rattle.jb_records.specs.declared.error.RecordsStepError.TheVariants.{Memory,
 use Rattle.jb_records.specs.declared.step.RecordsStep.{RecordsStep}
 use Rattle.jb_records.specs.Function.{Function, tries_of}
 use Rattle.jb_records.specs.Made.{even_partitions}
-use Rattle.jb_records.specs.Shares.{AreNumbered, joined}
+use Rattle.jb_records.specs.PartitionResults.{AreNumbered, joined}
 use Rattle.jb_records.specs.Artifacts.{AreNeverSkipped, record_of}
 
--- some first try at one of these records, the first of which has the number `first`, is to fail with a class that may be skipped
+-- some first try at one of these records, the first of which has the number `first`, would fail with a class that may be skipped
 pub record HasSkippedTry (f : Function) (rules : RulesRecord) (first : ℕ) (records : List (List ℕ)) : Type 0 where
   pub number : ℕ
   pub from : first ≤ number
@@ -31,7 +31,7 @@ pub record HasSkippedTry (f : Function) (rules : RulesRecord) (first : ℕ) (rec
 abbrev pub written_in : List Row → ℕ
 written_in rows = sum_by (λ row. row.written) rows
 
--- the earlier results are others in number than the rows of the text say
+-- the number of the earlier results isn't what the rows of the text say
 pub record AreOtherResults (text : List ℕ) (results : List (List ℕ)) : Type 0 where
   pub held : SavedRows
   pub read : answer_of (tree_of text) ≡ Ok held
@@ -43,8 +43,8 @@ pub record AreRowsRefused (step : List ℕ) (records : ℕ) (text : List ℕ) (p
   pub read : answer_of (tree_of text) ≡ Ok held
   pub first : slice_get (step_faults step records held) 0 ≡ Some place
 
--- what is wrong with the step: its even partitions, or the saved text, or it broke off, since its desk wasn't its own, a worker
--- could not be started, or memory lacked
+-- What is wrong with the step: its even partitions, or the saved text; or it broke off: its desk wasn't its own, a worker could not be
+-- started, or memory ran out.
 abbrev pub IsStepFault : RecordsStep → (records : ℕ) → Option (List ℕ × List (List ℕ)) → StepError → Type 0
 IsStepFault step records earlier (error.Plan fault) = IsFirst fault (plan_errors records (even_partitions step records))
 IsStepFault step records (Some e) (error.Saved place) = (answer_of (tree_of e.0) ≡ Err place) ⊎ AreRowsRefused step.id records e.0 place
@@ -62,15 +62,15 @@ IsCauseOf f step records earlier SkippedTry = HasSkippedTry f step.rules 0 recor
 IsCauseOf f step records earlier (Step why) = IsStepFault step (length records) earlier why
 IsCauseOf f step records earlier Memory = Unit {0}
 
--- ---- BEHIND THE RESULTS OF EACH PARTITION
+-- ---- RESUMING FROM THE RESULTS OF EACH PARTITION
 
--- some partition's results are others in number than its row of the text says, or there are others than these partitions
-pub record AreOtherShares (text : List ℕ) (shares : List (List (List ℕ))) : Type 0 where
+-- the number of some partition's results isn't what its row of the text says, or there are results of other partitions
+pub record AreOtherPartitionResults (text : List ℕ) (partition_results : List (List (List ℕ))) : Type 0 where
   pub held : SavedRows
   pub read : answer_of (tree_of text) ≡ Ok held
-  pub others : AreNumbered held.rows shares → ⊥
+  pub others : AreNumbered held.rows partition_results → ⊥
 
--- THE CAUSE OF EACH ERROR, where these are given
-abbrev pub IsCauseBehind : Function → RecordsStep → (records : List (List ℕ)) → (text : List ℕ) → (shares : List (List (List ℕ))) → RecordsStepError → Type 0
-IsCauseBehind f step records text shares Results = AreOtherShares text shares
-IsCauseBehind f step records text shares e = IsCauseOf f step records (Some (text, joined shares)) e
+-- THE CAUSE OF EACH ERROR, if these are given
+abbrev pub IsCauseBehind : Function → RecordsStep → (records : List (List ℕ)) → (text : List ℕ) → (partition_results : List (List (List ℕ))) → RecordsStepError → Type 0
+IsCauseBehind f step records text partition_results Results = AreOtherPartitionResults text partition_results
+IsCauseBehind f step records text partition_results e = IsCauseOf f step records (Some (text, joined partition_results)) e

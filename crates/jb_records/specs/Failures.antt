@@ -12,7 +12,7 @@ use Rattle.jb_rules.specs.declared.choice.Choice.TheVariants.{Skip, Fail}
 use Rattle.jb_rules.specs.declared.row.Row.{Row}
 use Rattle.jb_rules.specs.Rows.{row_block, skips_of}
 use Rattle.jb_rules.specs.States.{is_failed}
-use Rattle.jb_records.specs.declared.failures.Failure.{Failure}
+use Rattle.jb_records.specs.declared.failures.FailedPartition.{FailedPartition}
 use Rattle.jb_records.specs.Function.{Function, refusal_of, tries_of}
 use Rattle.jb_records.specs.Artifacts.{record_of}
 use Rattle.jb_records.specs.Skips.{skips_between}
@@ -25,8 +25,8 @@ failed_rows rows = filter (λ n. is_failed n.1.state) (enumerate_from 0 rows)
 abbrev pub IsFaultOf : Function → (bytes : List ℕ) → ClassId → Type 0
 IsFaultOf f bytes class = (refusal_of f bytes ≡ Some class) ⊎ (refusal_of f bytes ≡ None) × Contains (tries_of f bytes) class
 
--- What becomes of a fault of this class at record `k`, in an attempt that begins where the row stands. The skips before it are those
--- of committed chunks, and those of the attempt's earlier records that are refused: no fault of a first try is skipped.
+-- What becomes of a fault of this class at record `k`, in an attempt that begins at the row's next record. The skips before it are those of
+-- committed chunks, and those of the attempt's earlier records that are refused: no fault of a first try is skipped.
 abbrev pub choice_for : Function → RulesRecord → (records : List (List ℕ)) → Row → (k : ℕ) → ClassId → Choice
 choice_for f rules records row k class = choice_at rules row class (skips_of row + length (skips_between f records row.at k))
 
@@ -35,8 +35,7 @@ abbrev pub AreSkipped : Function → RulesRecord → (records : List (List ℕ))
 AreSkipped f rules records row end =
     (k : ℕ) (class : ClassId) → row.at ≤ k → k < end → refusal_of f (record_of 0 records k) ≡ Some class → choice_for f rules records row k class ≡ Skip
 
--- THE FAULT ENDED THE LAST ATTEMPT, which is one at the chunk where the row stands: the faults before it in this chunk are skipped, and
--- by this one the partition fails
+-- THE FAULT ENDED THE LAST ATTEMPT, at the row's next chunk: the faults before it in this chunk are skipped, and the partition fails by this one
 pub record EndsAttempt (f : Function) (rules : RulesRecord) (item_count : ℕ) (records : List (List ℕ)) (row : Row) (note : Note) : Type 0 where
   pub chunk : note.number < (row_block item_count row).hi
   pub first : AreSkipped f rules records row note.number
@@ -49,12 +48,12 @@ pub record IsFaultIn (f : Function) (rules : RulesRecord) (item_count : ℕ) (re
   pub fault : IsFaultOf f (record_of 0 records note.number) note.class
   pub ends : EndsAttempt f rules item_count records row note
 
-pub record IsFailure (f : Function) (rules : RulesRecord) (item_count : ℕ) (records : List (List ℕ)) (n : ℕ × Row) (failure : Failure) : Type 0 where
+pub record IsFailure (f : Function) (rules : RulesRecord) (item_count : ℕ) (records : List (List ℕ)) (n : ℕ × Row) (failure : FailedPartition) : Type 0 where
   pub partition : failure.partition ≡ n.0
   pub fault : IfSome failure.fault (IsFaultIn f rules item_count records n.1)
 
 -- THE FAILED PARTITIONS of a step with these rules and chunks of so many records, each with its fault, if that is known
-abbrev pub AreFailures : Function → RulesRecord → (item_count : ℕ) → (records : List (List ℕ)) → List Row → List Failure → Type 0
+abbrev pub AreFailures : Function → RulesRecord → (item_count : ℕ) → (records : List (List ℕ)) → List Row → List FailedPartition → Type 0
 AreFailures f rules item_count records rows failures = Pairwise (IsFailure f rules item_count records) (failed_rows rows) failures
 
 -- ---- THE FAULT THAT WAS MET LAST

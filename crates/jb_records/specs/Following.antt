@@ -26,7 +26,7 @@ pub use Rattle.jb_records.specs.Function.{IsSteady}
 abbrev pub classes_between : Function → (records : List (List ℕ)) → (lo hi : ℕ) → List ClassId
 classes_between f records lo hi = map (λ note. note.class) (skips_between f records lo hi)
 
--- THE RECORD BY WHOSE FAULT A PARTITION FAILS, of those from its checkpoint on: the rules let the faults before it pass, and not with it
+-- THE RECORD BY WHOSE FAULT A PARTITION FAILS, of those from its checkpoint on: the rules let the faults before it pass, but not with it
 pub record IsStop (f : Function) (rules : RulesRecord) (records : List (List ℕ)) (row : Row) (note : Note) : Type 0 where
   pub from : row.at ≤ note.number
   pub to : note.number < row.hi
@@ -34,8 +34,7 @@ pub record IsStop (f : Function) (rules : RulesRecord) (records : List (List ℕ
   pub passed : Pass rules (classes_between f records row.lo note.number)
   pub fails : Pass rules (classes_between f records row.lo (suc note.number)) → ⊥
 
--- A ROW FOLLOWS THE RULES: they let the faults before its checkpoint pass, these are the skips that it counts, and it has failed only by
--- such a record
+-- A ROW FOLLOWS THE RULES: they let the faults before its checkpoint pass. These are the skips that it counts. It has failed only by such a record.
 pub record FollowsRules (f : Function) (rules : RulesRecord) (records : List (List ℕ)) (row : Row) : Type 0 where
   pub counted : row.counts.process_skip ≡ length (skips_between f records row.lo row.at)
   pub skipped : skips_of row ≡ length (skips_between f records row.lo row.at)
@@ -65,7 +64,7 @@ RowsPass f rules records rows = RangesPass f rules records (ranges_of rows)
 abbrev pub StepPasses : Function → RecordsStep → (records : List (List ℕ)) → Type 0
 StepPasses f step records = RangesPass f step.rules records (even_partitions step (length records)).ranges
 
--- by which record the row's partition fails; where there is none, the records of its range pass
+-- by which record the row's partition fails; if by none, the records of its range pass
 abbrev pub IsStopOf : Function → RulesRecord → (records : List (List ℕ)) → Row → Option Note → Type 0
 IsStopOf f rules records row None = RangePasses f rules records (range_of row)
 IsStopOf f rules records row (Some note) = IsStop f rules records row note
@@ -76,7 +75,7 @@ HasFailed rows = list_any (λ row. is_failed row.state) rows ≡ true
 
 -- ---- HOW A RUN ENDS
 
--- its rows follow the rules; it is COMPLETED only where the records of its partitions pass, and FAILED only where they don't
+-- its rows follow the rules; it is COMPLETED only if the records of its partitions pass, and FAILED only if they don't
 pub record EndsByRules (f : Function) (rules : RulesRecord) (records : List (List ℕ)) (rows : List Row) (now : Status) : Type 0 where
   pub follows : FollowRules f rules records rows
   pub completed : now ≡ status.Completed → RowsPass f rules records rows

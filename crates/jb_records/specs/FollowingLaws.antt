@@ -3,7 +3,7 @@ use Rattle.std.specs.Prelude.{ℕ, ◌≡◌, ◌≤◌, ◌-◌, List, length, 
 use Rattle.jb_artifacts.specs.Meaning.{ArtifactsMeaning}
 use Rattle.jb_base.specs.Rules.{RulesRecord}
 use Rattle.jb_base.specs.declared.range.Range.{Range}
-use Rattle.jb_chunk.specs.Standing.{TaskState}
+use Rattle.jb_chunk.specs.TaskState.{TaskState}
 use Rattle.jb_ready.specs.declared.notes.Note.{Note}
 use Rattle.jb_rules.specs.Rows.{range_of}
 use Rattle.jb_rules.specs.declared.row.Row.{Row}
@@ -15,15 +15,15 @@ use Rattle.jb_step.specs.preparing.Prepare.{DoFit}
 use Rattle.jb_step.specs.preparing.Setup.{IsSetup, Setup, first_tasks, fresh_rows, rows_now, unfinished}
 use Rattle.jb_records.specs.Following.{AreRulesRaised, FollowRules, HasFailed, IsStop, RangePasses, RowsPass, classes_between, ranges_of}
 use Rattle.jb_records.specs.Function.{Function, IsSteady}
-use Rattle.jb_records.specs.Shares.{AreAtTheirEnds, IsSoFar}
+use Rattle.jb_records.specs.PartitionResults.{AreAtTheirEnds, IsSoFar}
 use Rattle.jb_records.specs.Steps.{AreArtifacts}
 
--- THE LAW: where a run of the step left its partitions, its rows follow the step's rules, if they did when it began
+-- THE LAW: at each state in which a run of the step left its partitions, its rows follow the step's rules, if they did when it began
 abbrev pub RulesAreKept : Type 0
 RulesAreKept =
-    (f : Function) (records : List (List ℕ)) (shares : List (List (List ℕ))) (s : Setup) (artifacts : List ArtifactsMeaning) (ends : List TaskState)
-    → IsSteady f → IsSetup s → DoFit s artifacts → AreArtifacts f s.rules records shares (unfinished s.rows) artifacts → AreOnTheWay (first_tasks s artifacts) ends
-    → IsSoFar f records s.rows shares → FollowRules f s.rules records s.rows → FollowRules f s.rules records (rows_now s.rows ends)
+    (f : Function) (records : List (List ℕ)) (partition_results : List (List (List ℕ))) (s : Setup) (artifacts : List ArtifactsMeaning) (ends : List TaskState)
+    → IsSteady f → IsSetup s → DoFit s artifacts → AreArtifacts f s.rules records partition_results (unfinished s.rows) artifacts → AreOnTheWay (first_tasks s artifacts) ends
+    → IsSoFar f records s.rows partition_results → FollowRules f s.rules records s.rows → FollowRules f s.rules records (rows_now s.rows ends)
 
 -- and new rows do
 abbrev pub NewRowsFollow : Type 0
@@ -32,14 +32,14 @@ NewRowsFollow = (f : Function) (rules : RulesRecord) (records : List (List ℕ))
 -- THE LAW: once all are finished, the records of each partition pass
 abbrev pub FinishedRowsPass : Type 0
 FinishedRowsPass =
-    (f : Function) (rules : RulesRecord) (records : List (List ℕ)) (rows : List Row) (shares : List (List (List ℕ)))
-    → IsSoFar f records rows shares → FollowRules f rules records rows → AreAtTheirEnds rows → RowsPass f rules records rows
+    (f : Function) (rules : RulesRecord) (records : List (List ℕ)) (rows : List Row) (partition_results : List (List (List ℕ)))
+    → IsSoFar f records rows partition_results → FollowRules f rules records rows → AreAtTheirEnds rows → RowsPass f rules records rows
 
--- THE LAW: where one has failed, those of some partition don't
+-- THE LAW: if one has failed, those of some partition don't
 abbrev pub FailedRowsDont : Type 0
 FailedRowsDont = (f : Function) (rules : RulesRecord) (records : List (List ℕ)) (rows : List Row) → FollowRules f rules records rows → HasFailed rows → RowsPass f rules records rows → ⊥
 
--- THE LAW: by one record at most a partition fails, and where there is one, the records of its range don't pass
+-- THE LAW: a partition fails by one record at most; if there is one, the records of its range don't pass
 abbrev pub StopsAreOne : Type 0
 StopsAreOne =
     (f : Function) (rules : RulesRecord) (records : List (List ℕ)) (row : Row) (note other : Note)

@@ -1,5 +1,5 @@
 pub mod Causes
-pub mod Earlier
+pub mod StoppedRuns
 pub mod Failures
 pub mod Following
 pub mod FollowingLaws
@@ -7,9 +7,9 @@ pub mod Function
 pub mod Made
 pub mod Refusals
 pub mod Runs
-pub mod Shares
+pub mod PartitionResults
 pub mod Skips
 pub mod Steps
-pub mod Stretches
+pub mod Intervals
 pub mod Artifacts
 pub mod inside

@@ -15,7 +15,7 @@ use Rattle.jb_step.specs.preparing.Setup.{IsSetup, Setup, unfinished}
 use Rattle.jb_step.specs.restarts.StepRuns.{IsAnswered}
 use Rattle.jb_records.specs.declared.step.RecordsStep.{RecordsStep}
 use Rattle.jb_records.specs.Function.{Function}
-use Rattle.jb_records.specs.Shares.{AreNumbered, joined, newer_shares}
+use Rattle.jb_records.specs.PartitionResults.{AreNumbered, joined, newer_partition_results}
 use Rattle.jb_records.specs.Steps.{AreFirstArtifacts}
 
 -- ---- HOW IT BEGINS
@@ -32,44 +32,44 @@ step_record step = record {
 abbrev pub even_partitions : RecordsStep → (records : ℕ) → PartitionPlan
 even_partitions step records = record { ranges = even_ranges records step.partitions; threads = step.threads; replace = false }
 
--- The step was prepared: with its item count, its rules, its threads, and the rows of its ranges, or the saved ones, of which the
--- failed ones wait again. Each partition has as many of the earlier results as its row says, one partition behind the other.
-pub record IsStepBegun (step : RecordsStep) (records : ℕ) (saved : Option SavedRows) (earlier : List (List ℕ)) (s : Setup) (shares : List (List (List ℕ))) : Type 0 where
+-- The step was prepared with its item count, its rules and its threads. Its rows are those of its ranges, or the saved ones, of which the
+-- failed ones wait again. Each partition has as many of the earlier results as its row says, joined in the order of the partitions.
+pub record IsStepBegun (step : RecordsStep) (records : ℕ) (saved : Option SavedRows) (earlier : List (List ℕ)) (s : Setup) (partition_results : List (List (List ℕ))) : Type 0 where
   pub prepared : IsPreparation (step_record step) records (Ok (even_partitions step records)) saved s
   pub setup : IsSetup s
-  pub numbered : AreNumbered s.rows shares
-  pub results : joined shares ≡ earlier
+  pub numbered : AreNumbered s.rows partition_results
+  pub results : joined partition_results ≡ earlier
 
 -- what it takes over: the rows that an earlier run's text holds, and that run's results; or nothing
 abbrev pub TakesOver : Option (List ℕ × List (List ℕ)) → Option SavedRows → (results : List (List ℕ)) → Type 0
 TakesOver None saved results = (saved ≡ None) × (results ≡ [])
 TakesOver (Some e) saved results = (held : SavedRows) × (answer_of (tree_of e.0) ≡ Ok held) × (saved ≡ Some held) × (results ≡ e.1)
 
-pub record IsBegunBehind (step : RecordsStep) (records : ℕ) (earlier : Option (List ℕ × List (List ℕ))) (s : Setup) (shares : List (List (List ℕ))) : Type 0 where
+pub record IsBegunBehind (step : RecordsStep) (records : ℕ) (earlier : Option (List ℕ × List (List ℕ))) (s : Setup) (partition_results : List (List (List ℕ))) : Type 0 where
   pub saved : Option SavedRows
   pub results : List (List ℕ)
   pub takes_over : TakesOver earlier saved results
-  pub begun : IsStepBegun step records saved results s shares
+  pub begun : IsStepBegun step records saved results s partition_results
 
 -- ---- WHAT WAS RUN
 
--- A run of the step that was prepared so, in so many rounds at most. Each unfinished partition began with its own records, its
--- share, and the first tries that the function has for its records. What `run_step` says of it holds: its plans, and where they
--- left each partition (`headline`); these are its rows, and the results in its writers.
-pub record IsRunMade (f : Function) (records : List (List ℕ)) (rounds : Option ℕ) (s : Setup) (shares : List (List (List ℕ))) (snapshot : Snapshot) (results : List (List (List ℕ))) : Type 0 where
+-- A run of the step that was prepared so, in so many rounds at most. Each unfinished partition began with its own records, its share, and
+-- the first tries that the function has for its records. All that `run_step` says of it holds: its plans, and where they left each
+-- partition (`headline`). These are its rows, and the results in its writers.
+pub record IsRunMade (f : Function) (records : List (List ℕ)) (rounds : Option ℕ) (s : Setup) (partition_results : List (List (List ℕ))) (snapshot : Snapshot) (results : List (List (List ℕ))) : Type 0 where
   pub run : StepRun
   pub setup : run.setup ≡ s
   pub rounds_are : run.round_limit ≡ rounds
-  pub artifacts : AreFirstArtifacts f s.rules records shares (unfinished s.rows) run.artifacts
+  pub artifacts : AreFirstArtifacts f s.rules records partition_results (unfinished s.rows) run.artifacts
   pub answered : IsAnswered run
   pub headline : Headline run
   pub on_the_way : AreOnTheWay (tasks_before run) (tasks_after run)
   pub snapshot_is : run.snapshot ≡ snapshot
-  pub results_are : results ≡ newer_shares run.left shares
+  pub results_are : results ≡ newer_partition_results run.left partition_results
 
--- THE RUN OF A STEP OVER RECORDS, anew or behind an earlier one
+-- THE RUN OF A STEP OVER RECORDS, from the start or resuming an earlier one
 pub record IsRecordsRun (f : Function) (step : RecordsStep) (records : List (List ℕ)) (earlier : Option (List ℕ × List (List ℕ))) (rounds : Option ℕ) (snapshot : Snapshot) (results : List (List (List ℕ))) : Type 0 where
   pub setup : Setup
-  pub shares : List (List (List ℕ))
-  pub begun : IsBegunBehind step (length records) earlier setup shares
-  pub made : IsRunMade f records rounds setup shares snapshot results
+  pub partition_results : List (List (List ℕ))
+  pub begun : IsBegunBehind step (length records) earlier setup partition_results
+  pub made : IsRunMade f records rounds setup partition_results snapshot results

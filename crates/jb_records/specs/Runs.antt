@@ -2,7 +2,7 @@
 use Rattle.std.specs.Prelude.{ℕ, ◌≡◌, ◌≤◌, ◌+◌, List, length}
 use Rattle.jb_rules.specs.declared.row.RowState.TheVariants.{Finished}
 use Rattle.jb_chunk.specs.Alone.{IsOnTheWay}
-use Rattle.jb_chunk.specs.Standing.{IsReady, TaskState}
+use Rattle.jb_chunk.specs.TaskState.{IsReady, TaskState}
 use Rattle.jb_records.specs.Function.{Function}
 use Rattle.jb_records.specs.Artifacts.{IsArtifactsOver, own_records, results_between}
 

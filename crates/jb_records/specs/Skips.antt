@@ -6,12 +6,12 @@ use Rattle.jb_base.specs.declared.class.ClassId.{ClassId}
 use Rattle.jb_base.specs.declared.range.Range.{Range}
 use Rattle.jb_ready.specs.declared.notes.Note.{Note}
 use Rattle.jb_rules.specs.declared.row.Row.{Row}
-use Rattle.jb_chunk.specs.Standing.{TaskState}
+use Rattle.jb_chunk.specs.TaskState.{TaskState}
 use Rattle.jb_step.specs.Alone.{AreOnTheWay}
 use Rattle.jb_step.specs.preparing.Prepare.{DoFit}
 use Rattle.jb_step.specs.preparing.Setup.{IsSetup, Setup, first_tasks, fresh_rows, rows_now, unfinished}
 use Rattle.jb_records.specs.Function.{Function, refusal_of}
-use Rattle.jb_records.specs.Shares.{IsSoFar}
+use Rattle.jb_records.specs.PartitionResults.{IsSoFar}
 use Rattle.jb_records.specs.Steps.{AreArtifacts}
 use Rattle.jb_records.specs.Artifacts.{record_of}
 
@@ -37,12 +37,12 @@ AreSkipsCounted f records row = row.counts.process_skip ≡ length (skips_betwee
 abbrev pub AreCounted : Function → (records : List (List ℕ)) → List Row → Type 0
 AreCounted f records rows = AllByRecursion (AreSkipsCounted f records) rows
 
--- THE LAW: where a run of the step left its partitions, its rows count the skipped records, if they did when it began
+-- THE LAW: at each state in which a run of the step left its partitions, its rows count the skipped records, if they did when it began
 abbrev pub SkipsAreCounted : Type 0
 SkipsAreCounted =
-    (f : Function) (records : List (List ℕ)) (shares : List (List (List ℕ))) (s : Setup) (artifacts : List ArtifactsMeaning) (ends : List TaskState)
-    → IsSetup s → DoFit s artifacts → AreArtifacts f s.rules records shares (unfinished s.rows) artifacts → AreOnTheWay (first_tasks s artifacts) ends
-    → IsSoFar f records s.rows shares → AreCounted f records s.rows → AreCounted f records (rows_now s.rows ends)
+    (f : Function) (records : List (List ℕ)) (partition_results : List (List (List ℕ))) (s : Setup) (artifacts : List ArtifactsMeaning) (ends : List TaskState)
+    → IsSetup s → DoFit s artifacts → AreArtifacts f s.rules records partition_results (unfinished s.rows) artifacts → AreOnTheWay (first_tasks s artifacts) ends
+    → IsSoFar f records s.rows partition_results → AreCounted f records s.rows → AreCounted f records (rows_now s.rows ends)
 
 -- and new rows do
 abbrev pub NewRowsAreCounted : Type 0

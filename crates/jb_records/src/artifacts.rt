@@ -142,12 +142,12 @@ fn artifacts_for<F: StepFunction + Drop>(
     rules: &Rules,
     records: &PackedList,
     prepared: &Prepared,
-    shares: &[PackedList],
+    partition_results: &[PackedList],
     partitions: &[u32],
 ) -> Result<Vec<RecordsArtifacts<F>>, RecordsStepError>
-    requires { HaveOwn (length records.now) prepared.now.rows shares.now partitions.now }
+    requires { HaveOwn (length records.now) prepared.now.rows partition_results.now partitions.now }
     ensures why { IfErr result (IsTryRefused (F.function (arc_value function.now)) rules.now 0 records.now) }
-    ensures artifacts { IfOk result (λ all. AreArtifactsOf (F.function (arc_value function.now)) rules.now records.now shares.now prepared.now.rows partitions.now (map ⟦<RecordsArtifacts<F> as Meaning>⟧.meaning all.items)) }
+    ensures artifacts { IfOk result (λ all. AreArtifactsOf (F.function (arc_value function.now)) rules.now records.now partition_results.now prepared.now.rows partitions.now (map ⟦<RecordsArtifacts<F> as Meaning>⟧.meaning all.items)) }
 {
     let Some((partition, others)) = partitions.split_first() else {
         return Ok(Vec::new(alloc));
@@ -155,11 +155,19 @@ fn artifacts_for<F: StepFunction + Drop>(
     let Some(row) = prepared.row(*partition) else {
         unreachable!();
     };
-    let Some(share) = shares.get(*partition as usize) else {
+    let Some(share) = partition_results.get(*partition as usize) else {
         unreachable!();
     };
     let artifacts = artifacts_of(alloc, function, rules, records, row, share)?;
-    let mut all = artifacts_for(alloc, function, rules, records, prepared, shares, others)?;
+    let mut all = artifacts_for(
+        alloc,
+        function,
+        rules,
+        records,
+        prepared,
+        partition_results,
+        others,
+    )?;
     all.insert(0, artifacts)?;
     Ok(all)
 }
@@ -171,11 +179,11 @@ pub(crate) fn all_artifacts<F: StepFunction + Drop>(
     rules: &Rules,
     records: &PackedList,
     prepared: &Prepared,
-    shares: &[PackedList],
+    partition_results: &[PackedList],
 ) -> Result<Vec<RecordsArtifacts<F>>, RecordsStepError>
-    requires { CanBeginOver (length records.now) prepared.now.rows shares.now }
+    requires { CanBeginOver (length records.now) prepared.now.rows partition_results.now }
     ensures why { IfErr result (IsTryRefused (F.function (arc_value function.now)) rules.now 0 records.now) }
-    ensures artifacts { IfOk result (λ all. AreFirstArtifacts (F.function (arc_value function.now)) rules.now records.now shares.now (unfinished prepared.now.rows) (map ⟦<RecordsArtifacts<F> as Meaning>⟧.meaning all.items)) }
+    ensures artifacts { IfOk result (λ all. AreFirstArtifacts (F.function (arc_value function.now)) rules.now records.now partition_results.now (unfinished prepared.now.rows) (map ⟦<RecordsArtifacts<F> as Meaning>⟧.meaning all.items)) }
 {
     let all = artifacts_for(
         alloc,
@@ -183,7 +191,7 @@ pub(crate) fn all_artifacts<F: StepFunction + Drop>(
         rules,
         records,
         prepared,
-        shares,
+        partition_results,
         prepared.needs(),
     )?;
     Ok(all)

@@ -4,12 +4,12 @@ ghost use Rattle.std.specs.Prelude.{◌≡◌, IfErr, IfOk, Some, string_bytes};
 ghost use Rattle.jb_job.specs.Reading.{tree_of};
 ghost use Rattle.jb_saved.specs.SavedTree.{saved_tree};
 ghost use Rattle.jb_records.specs.Refusals.{IsUnsaved};
-ghost use Rattle.jb_records.specs.Shares.{joined};
+ghost use Rattle.jb_records.specs.PartitionResults.{joined};
 ghost use Rattle.jb_records.specs.Skips.{skipped_of};
 
 use crate::error::RecordsStepError;
-use crate::failures::Failure;
-use crate::shares::joined;
+use crate::failures::FailedPartition;
+use crate::partition_results::joined;
 use crate::skips::skipped_of;
 use crate::step_function::StepFunction;
 use jb_base::{Name, PackedList};
@@ -25,19 +25,19 @@ pub struct RecordsEnd {
     pub status: Status,
     pub snapshot: Snapshot,
     pub results: Vec<PackedList>,
-    pub failures: Vec<Failure>,
+    pub failures: Vec<FailedPartition>,
 }
 
 impl RecordsEnd {
-    /// The results of all partitions, those of one behind those of the other.
+    /// The results of all partitions, joined in the order of the partitions.
     pub fn all_results(&self, alloc: Global) -> Result<PackedList, AllocError>
         ensures { IfOk result (λ all. all ≡ joined self.now.results.items) }
     {
         joined(alloc, &self.results)
     }
 
-    /// The records that were skipped, this run's and those of an earlier one that it went on from: the records before the checkpoints
-    /// that this function, the run's, refuses, each with its number and the class of its fault.
+    /// The records that were skipped, by this run and by an earlier one that it resumed: the records before the checkpoints that this
+    /// function refuses. It must be the run's function. Each record has its number and the class of its fault.
     pub fn skipped<F: StepFunction>(
         &self,
         alloc: Global,
@@ -49,7 +49,7 @@ impl RecordsEnd {
         skipped_of(alloc, function, records, &self.snapshot.rows)
     }
 
-    /// The text of the rows, from which a next run of the step of this name goes on.
+    /// The text of the rows, from which a next run of the step of this name resumes.
     ///
     /// # Errors
     /// `Step` with the first row that runs on a lane, and `Memory`.

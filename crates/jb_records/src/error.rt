@@ -16,13 +16,13 @@ pub enum RecordsStepError {
     /// The earlier results aren't as many as the saved rows say.
     #[error("the earlier results aren't those of the saved rows")]
     Results,
-    /// A first try is to fail with a class that the rules skip.
+    /// A first try would fail with a class that the rules skip.
     #[error("a try fails with a class that is skipped")]
     SkippedTry,
     /// The step has no end.
     #[error("the step has no end: {0}")]
     Step(StepError),
-    /// There was no memory.
+    /// Out of memory.
     #[error("out of memory")]
     Memory,
 }

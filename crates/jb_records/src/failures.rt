@@ -4,7 +4,7 @@ ghost use Rattle.std.specs.Prelude.{◌≡◌, ◌+◌, ◌<◌, ◌^◌, true, 
 ghost use Rattle.std.specs.List.{enumerate_from};
 ghost use Rattle.jb_base.specs.Pairwise.{Pairwise};
 ghost use Rattle.jb_chunk.specs.Block.{choice_at};
-ghost use Rattle.jb_chunk.specs.Standing.{HasItemCount};
+ghost use Rattle.jb_chunk.specs.TaskState.{HasItemCount};
 ghost use Rattle.jb_rules.specs.Sound.{IsSoundRow};
 ghost use Rattle.jb_rules.specs.States.{is_failed};
 ghost use Rattle.jb_records.specs.Failures.{AreFailures, EndsAttempt, IsFailure, IsFaultIn, IsFaultOf, fault_noted, last_fault};
@@ -22,10 +22,10 @@ use std::alloc::{AllocError, Global};
 
 /// A partition that failed.
 #[derive(Clone, Copy, Debug, PartialEq, Eq)]
-pub struct Failure {
+pub struct FailedPartition {
     pub partition: u32,
-    /// The record whose fault was neither skipped nor retried, and its class: that of the partition's last attempt. None where there was
-    /// no memory to note it.
+    /// The record whose fault was neither skipped nor retried, and its class: that of the partition's last attempt. None if there was no
+    /// memory to note it.
     pub fault: Option<Note>,
 }
 
@@ -74,7 +74,7 @@ fn fault_of<F: StepFunction>(
     }
 }
 
-/// What becomes of a fault of this class after so many skips, in an attempt at the chunk where the row stands.
+/// What becomes of a fault of this class after so many skips, in an attempt at the row's next chunk.
 fn choice_at(rules: &Rules, row: &Row, class: ClassId, skips: u64) -> Choice
     ensures { result ≡ choice_at rules.now row.now class skips }
 {
@@ -102,8 +102,7 @@ fn skips_past<F: StepFunction>(
     }
 }
 
-/// The skips before this record in an attempt at the chunk where the row stands. None if an earlier record of the chunk is refused and isn't
-/// skipped.
+/// The skips before this record in an attempt at the row's next chunk. None if an earlier record of the chunk is refused and isn't skipped.
 fn skips_before<F: StepFunction>(
     alloc: Global,
     function: &F,
@@ -135,7 +134,7 @@ fn skips_before<F: StepFunction>(
     Ok(Some(skips))
 }
 
-/// Whether the partition's last attempt, at the chunk where its row stands, ended by this fault.
+/// Whether the partition's last attempt, at its row's next chunk, ended by this fault.
 fn ends_attempt<F: StepFunction>(
     alloc: Global,
     function: &F,
@@ -199,7 +198,7 @@ fn failures_from<F: StepFunction>(
     partition: u32,
     rows: &[Row],
     artifacts: &[(u32, RecordsArtifacts<F>)],
-) -> Result<Vec<Failure>, AllocError>
+) -> Result<Vec<FailedPartition>, AllocError>
     requires items { HasItemCount item_count }
     requires few { partition + length rows.now < 2 ^ 32 }
     ensures { IfOk result (λ failures. Pairwise (IsFailure (F.function function.now) rules.now item_count records.now)
@@ -228,7 +227,7 @@ fn failures_from<F: StepFunction>(
             row,
             noted_of(artifacts, partition),
         )?;
-        failures.insert(0, Failure { partition, fault })?;
+        failures.insert(0, FailedPartition { partition, fault })?;
     }
     Ok(failures)
 }
@@ -242,7 +241,7 @@ pub(crate) fn failures_of<F: StepFunction>(
     records: &PackedList,
     rows: &[Row],
     artifacts: &[(u32, RecordsArtifacts<F>)],
-) -> Result<Vec<Failure>, AllocError>
+) -> Result<Vec<FailedPartition>, AllocError>
     requires items { HasItemCount item_count }
     requires few { length rows.now < 2 ^ 32 }
     ensures { IfOk result (λ failures. AreFailures (F.function function.now) rules.now item_count records.now rows.now failures.items) }

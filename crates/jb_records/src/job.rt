@@ -4,29 +4,29 @@ ghost use Rattle.std.specs.Prelude.{◌≡◌, ◌≤◌, false, length, None, S
 ghost use Rattle.jb_base.specs.Limits.{max_records};
 ghost use Rattle.jb_mapper.specs.EvenCover.{even_ranges};
 ghost use Rattle.jb_mapper.specs.Mapping.{even};
-ghost use Rattle.jb_chunk.specs.Standing.{HasItemCount};
+ghost use Rattle.jb_chunk.specs.TaskState.{HasItemCount};
 ghost use Rattle.jb_collect.specs.declared.calls.Status.TheVariants.{Completed};
 ghost use Rattle.jb_step.specs.preparing.Prepare.{IsPreparation};
 ghost use Rattle.jb_step.specs.preparing.Setup.{IsSetup};
 ghost use Rattle.jb_step.specs.Statuses.{status_of};
-ghost use Rattle.jb_records.specs.Earlier.{IsStoppedRun};
+ghost use Rattle.jb_records.specs.StoppedRuns.{IsStoppedRun};
 ghost use Rattle.jb_records.specs.Failures.{AreFailures};
 ghost use Rattle.jb_records.specs.Following.{FollowRules};
 ghost use Rattle.jb_records.specs.Function.{Function, IsSteady, all_results};
-ghost use Rattle.jb_records.specs.inside.Following.{EndsOver, IsAnew};
+ghost use Rattle.jb_records.specs.inside.Following.{EndsOver, IsFresh};
 ghost use Rattle.jb_records.specs.inside.Calls.{CanBeginOver, IsUnbegun, IsUnbegunWith, HasNoEnd, IsUnprepared, IsUnpreparedFor};
 ghost use Rattle.jb_records.specs.Made.{IsStepBegun, IsRunMade, even_partitions, step_record};
 ghost use Rattle.jb_saved.specs.GoingOn.{rows_restarted};
-ghost use Rattle.jb_records.specs.Shares.{AreNumbered, IsSoFar, joined};
+ghost use Rattle.jb_records.specs.PartitionResults.{AreNumbered, IsSoFar, joined};
 ghost use Rattle.jb_records.specs.Skips.{AreCounted};
-ghost use Rattle.jb_records.specs.Steps.{BeginsAnew};
+ghost use Rattle.jb_records.specs.Steps.{StartsFresh};
 
 use crate::artifacts::{RecordsArtifacts, all_artifacts};
 use crate::end::RecordsEnd;
 use crate::error::RecordsStepError;
 use crate::failures::failures_of;
 use crate::laws::{rules_are_kept, skips_are_counted, steps_keep_results};
-use crate::shares::{are_numbered, put_back, shares_of};
+use crate::partition_results::{are_numbered, partition_results_of, put_back};
 use crate::step::RecordsStep;
 use crate::step_function::StepFunction;
 use jb_base::{MAX_RECORDS, Name, PackedList, Rules};
@@ -55,12 +55,13 @@ pub(crate) struct RecordsJob {
 }
 
 impl RecordsJob {
-    /// The step begins anew, with no results, or goes on from the saved rows of a stopped run and its results, those of one
-    /// partition behind those of the other.
+    /// The step. It begins with no results, or resumes from the saved rows of a stopped run and its results, joined in the order of the partitions.
     ///
     /// # Errors
-    /// `Records` where there are more than 10,000,000; `Step` with what is wrong with the partitions or the saved rows; `Results`
-    /// where the rows say otherwise how many results there are; and `Memory`.
+    /// - `Records` if there are more than 10,000,000.
+    /// - `Step` with what is wrong with the partitions or the saved rows.
+    /// - `Results` if the rows say another number of results.
+    /// - `Memory`.
     pub(crate) fn begin(
         alloc: Global,
         step: &RecordsStep,
@@ -71,7 +72,7 @@ impl RecordsJob {
         ensures why { IfErr result (IsUnbegun step.now (length records.now) saved (length earlier.now)) }
         ensures begun { IfOk result (λ job. IsStepBegun step.now (length records.now) saved earlier.now job.prepared job.results.items) }
         ensures few { OnOk result (length records.now ≤ max_records) }
-        ensures new { saved ≡ None → IfOk result (λ job. (f : Function) → IsAnew f step.now records.now job.prepared job.results.items) }
+        ensures new { saved ≡ None → IfOk result (λ job. (f : Function) → IsFresh f step.now records.now job.prepared job.results.items) }
         ensures resumed { IfSome saved (λ held. IfOk result (λ job. job.prepared.rows ≡ rows_restarted held)) }
         ensures goes_on { IfOk result (λ job. (f : Function) → IsStoppedRun f records.now saved earlier.now → IsSoFar f records.now job.prepared.rows job.results.items) }
     {
@@ -81,7 +82,7 @@ impl RecordsJob {
         let mut reducer = FaultlessReducer::new(alloc);
         let count = records.len() as u64;
         let prepared = prepared_for(alloc, step, count, &mut reducer, saved)?;
-        let results = shares_of(alloc, &prepared, earlier)?;
+        let results = partition_results_of(alloc, &prepared, earlier)?;
         Ok(RecordsJob {
             prepared,
             results,
@@ -91,10 +92,10 @@ impl RecordsJob {
         })
     }
 
-    /// The step goes on from the saved rows of an earlier run, with the results of each partition.
+    /// The step. It resumes from the saved rows of an earlier run, with the results of each partition.
     ///
     /// # Errors
-    /// Those of `begin`; `Results` where the rows say otherwise how many results a partition has.
+    /// Those of `begin`; `Results` if the rows say another number of results for a partition.
     pub(crate) fn behind(
         alloc: Global,
         step: &RecordsStep,
@@ -125,11 +126,11 @@ impl RecordsJob {
         })
     }
 
-    /// Runs the step over its desk, for so many rounds at most. Wherever it ends, each partition has the
-    /// results of the records before its checkpoint, if it had them at the beginning.
+    /// Runs the step over its desk, for so many rounds at most. At every end, each partition has the results of the records before its
+    /// checkpoint, if it had them at the beginning.
     ///
     /// # Errors
-    /// `SkippedTry` where a first try is to fail with a class that the rules skip; `Step` with what broke the run off, and `Memory`.
+    /// `SkippedTry` if a first try would fail with a class that the rules skip; `Step` with what broke the run off, and `Memory`.
     pub(crate) fn run<
         F: StepFunction + Drop + 'static,
         L: Ledger + Send + Sync + 'static,
@@ -216,7 +217,7 @@ fn prepared_by(
     ensures setup { IfOk result IsSetup }
     ensures why { IfErr result (IsUnprepared step.now records (record { ranges = even_ranges records partitions; threads = threads; replace = false }) saved) }
     ensures prepared { IfOk result (IsPreparation step.now records (even partitions threads false records) saved) }
-    ensures new { saved ≡ None → IfOk result (BeginsAnew records) }
+    ensures new { saved ≡ None → IfOk result (StartsFresh records) }
     ensures resumed { IfSome saved (λ held. IfOk result (λ prepared. prepared.rows ≡ rows_restarted held)) }
 {
     let prepared = prepare(alloc, step, records, mapper, reducer, saved)?;
@@ -235,7 +236,7 @@ pub(crate) fn prepared_for(
     ensures few { OnOk result (records ≤ max_records) }
     ensures why { IfErr result (IsUnpreparedFor step.now records saved) }
     ensures prepared { IfOk result (IsPreparation (step_record step.now) records (Ok (even_partitions step.now records)) saved) }
-    ensures new { saved ≡ None → IfOk result (BeginsAnew records) }
+    ensures new { saved ≡ None → IfOk result (StartsFresh records) }
     ensures resumed { IfSome saved (λ held. IfOk result (λ prepared. prepared.rows ≡ rows_restarted held)) }
 {
     if records > MAX_RECORDS {

@@ -17,8 +17,8 @@ use jb_rows::{Outcome, Row, RowBuilder};
 use std::alloc::Global;
 use std::sync::Arc;
 
-/// The processor of a partition's records: one call of the function for each. A record that is refused fails with the class of its refusal,
-/// and others as the plans of their first tries say. It goes by its own records, which it shares with the reader.
+/// The processor of a partition's records: one call of the function for each. A refused record fails with the class of its refusal, and
+/// others as the plans of their first tries say. It uses its own records, which it shares with the reader.
 #[derive(Drop)]
 pub struct RecordsProcessor<F> {
     pub(crate) alloc: Global,
@@ -29,8 +29,8 @@ pub struct RecordsProcessor<F> {
     pub(crate) built: RowBuilder,
 }
 
-/// Whether the record of this number has a result, by what the function answered; or the fault with which its processing fails: that of
-/// its refusal, or else that of a first try.
+/// Whether the record of this number has a result, by what the function answered; or the fault with which its processing fails. That is the
+/// fault of its refusal, or else that of a first try.
 fn settled(outcome: Outcome, number: u64, tries: &mut FaultPlans) -> Result<bool, ArtifactError>
     ensures answered { IfOk result (λ found. IsSettled outcome number (plans_of tries.old) (plans_of tries.new) found) }
     ensures faulted { IfFault result (λ class. (built : Fields) → Strikes (refusal_in (answered outcome built)) number (plans_of tries.old) (plans_of tries.new) class) }

@@ -22,7 +22,7 @@ pub struct RecordsReader {
 }
 
 impl RecordsReader {
-    /// The reader of these records, the first of which has the number `first`. It stands at the first. Takes no memory.
+    /// The reader of these records, the first of which has the number `first`. It is at the first record. Takes no memory.
     pub(crate) fn new(alloc: Global, first: u64, records: Arc<PackedList, Global>) -> RecordsReader
         requires { first + length (arc_value records) < 2 ^ 64 }
         ensures { ⟦<RecordsReader as ItemReader>⟧.reader result ≡ record { first = first; records = arc_value records; place = first; faults = λ _. Sound } }

@@ -5,15 +5,15 @@ ghost use Rattle.jb_base.specs.Limits.{max_parts};
 ghost use Rattle.jb_collect.specs.declared.calls.Status.TheVariants.{Completed, Failed};
 ghost use Rattle.jb_step.specs.preparing.Setup.{IsSetup};
 ghost use Rattle.jb_step.specs.Statuses.{status_of};
-ghost use Rattle.jb_records.specs.Earlier.{FollowAgain, IsOfStoppedRun};
+ghost use Rattle.jb_records.specs.StoppedRuns.{FollowAgain, HoldsStoppedRun};
 ghost use Rattle.jb_records.specs.Failures.{AreFailures};
 ghost use Rattle.jb_records.specs.Following.{EndsByRules, FollowRules, StepPasses};
 ghost use Rattle.jb_records.specs.Function.{Function, IsSteady, all_results};
 ghost use Rattle.jb_records.specs.Causes.{IsCauseOf};
 ghost use Rattle.jb_records.specs.inside.Calls.{CanBeginOver, IsUnbegunBehind, HasNoEnd};
-ghost use Rattle.jb_records.specs.inside.Following.{EndsOver, GoesOnByRules, IsAnew};
+ghost use Rattle.jb_records.specs.inside.Following.{EndsOver, GoesOnByRules, IsFresh};
 ghost use Rattle.jb_records.specs.Made.{IsBegunBehind, IsRecordsRun, IsRunMade};
-ghost use Rattle.jb_records.specs.Shares.{IsSoFar, joined};
+ghost use Rattle.jb_records.specs.PartitionResults.{IsSoFar, joined};
 ghost use Rattle.jb_records.specs.Skips.{AreCounted};
 
 use crate::end::RecordsEnd;
@@ -29,31 +29,34 @@ use std::sync::Wait;
 use std::sync::ledger::{Blank, Ledger};
 use std::thread::Threads;
 
-/// What a stopped run left: its saved text, and the results of its partitions, those of one behind those of the other.
+/// What a stopped run left: its saved text, and the results of its partitions, joined in their order.
 #[derive(Clone, Copy)]
-pub struct Earlier<'a> {
+pub struct StoppedRun<'a> {
     pub saved: &'a [u8],
     pub results: &'a PackedList,
 }
 
-/// Runs a step over records, anew or from where a stopped run left it, for so many rounds at most; with none, to its end.
-/// Wherever it ends, each partition has the results of the records before its checkpoint, each once and in order; where it is
-/// completed, those of all records: a record that is refused has none, and is left out where its class is skipped.
+/// Runs a step over records, from the start or from where a stopped run left it, for so many rounds at most; with none, to its end. At
+/// every end, each partition has the results of the records before its checkpoint, each once and in order. A completed step has those of
+/// all records. A refused record has no result: it is left out if its class is skipped.
 ///
-/// If no try of the function fails, a step that began anew is COMPLETED only where its rules let the refusals of each partition's records
-/// pass, and FAILED only where of some partition they don't.
+/// If no try of the function fails, this holds of a step that began from the start. It is COMPLETED only if its rules let the refusals of
+/// each partition's records pass. It is FAILED only if they don't for some partition.
 ///
 /// # Errors
-/// `Records` where there are more than 10,000,000; `Results` where the saved rows say otherwise how many results there are;
-/// `SkippedTry` where a first try is to fail with a class that the rules skip; `Step` with what is wrong with the partitions, the
-/// saved text or its rows, as that one ends past the last record, or with why the step has no end; and `Memory`.
+/// - `Records` if there are more than 10,000,000.
+/// - `Results` if the saved rows say another number of results.
+/// - `SkippedTry` if a first try would fail with a class that the rules skip.
+/// - `Step` with what is wrong with the partitions, the saved text or its rows (for example one that ends past the last record), or with
+///   why the step has no end.
+/// - `Memory`.
 pub fn run_records<F: StepFunction + Drop + 'static, R: Threads + Wait + Sync>(
     rt: &R,
     alloc: Global,
     step: &RecordsStep,
     function: F,
     records: &PackedList,
-    earlier: Option<Earlier>,
+    earlier: Option<StoppedRun>,
     rounds: Option<u64>,
 ) -> Result<RecordsEnd, RecordsStepError>
     ensures why { IfErr result (IsCauseOf (F.function function) step.now records.now (option_map (λ e. (e.saved.now, e.results.now)) earlier.entry)) }
@@ -66,11 +69,11 @@ pub fn run_records<F: StepFunction + Drop + 'static, R: Threads + Wait + Sync>(
     ensures failed { earlier.entry ≡ None → IsSteady (F.function function) → IfOk result (λ end. end.status ≡ Failed → StepPasses (F.function function) step.now records.now → ⊥) }
     ensures so_far { earlier.entry ≡ None → IfOk result (λ end. IsSoFar (F.function function) records.now end.snapshot.rows.items end.results.items) }
     ensures all { earlier.entry ≡ None → IfOk result (λ end. end.status ≡ Completed → joined end.results.items ≡ all_results (F.function function) records.now) }
-    ensures goes_on { IfSome earlier.entry (λ e. IsOfStoppedRun (F.function function) records.now e.saved.now e.results.now →
+    ensures goes_on { IfSome earlier.entry (λ e. HoldsStoppedRun (F.function function) records.now e.saved.now e.results.now →
         IfOk result (λ end. IsSoFar (F.function function) records.now end.snapshot.rows.items end.results.items)) }
-    ensures goes_on_whole { IfSome earlier.entry (λ e. IsOfStoppedRun (F.function function) records.now e.saved.now e.results.now →
+    ensures goes_on_whole { IfSome earlier.entry (λ e. HoldsStoppedRun (F.function function) records.now e.saved.now e.results.now →
         IfOk result (λ end. end.status ≡ Completed → joined end.results.items ≡ all_results (F.function function) records.now)) }
-    ensures goes_on_by_rules { IfSome earlier.entry (λ e. IsOfStoppedRun (F.function function) records.now e.saved.now e.results.now × IsSteady (F.function function) ×
+    ensures goes_on_by_rules { IfSome earlier.entry (λ e. HoldsStoppedRun (F.function function) records.now e.saved.now e.results.now × IsSteady (F.function function) ×
         FollowAgain (F.function function) step.now.rules records.now e.saved.now →
         IfOk result (λ end. EndsByRules (F.function function) step.now.rules records.now end.snapshot.rows.items end.status)) }
 {
@@ -79,20 +82,20 @@ pub fn run_records<F: StepFunction + Drop + 'static, R: Threads + Wait + Sync>(
     run_on::<F, Brand, R>(rt, alloc, blank, job, function, records, rounds)
 }
 
-/// The step as it begins, anew or behind an earlier run.
+/// The step as it begins, from the start or resuming an earlier run.
 pub(crate) fn begun(
     alloc: Global,
     step: &RecordsStep,
     records: &PackedList,
-    earlier: &Option<Earlier>,
+    earlier: &Option<StoppedRun>,
 ) -> Result<RecordsJob, RecordsStepError>
     ensures why { IfErr result (IsUnbegunBehind step.now (length records.now) (option_map (λ e. (e.saved.now, e.results.now)) earlier.now)) }
     ensures begun { IfOk result (λ job. IsBegunBehind step.now (length records.now) (option_map (λ e. (e.saved.now, e.results.now)) earlier.now) job.prepared job.results.items) }
-    ensures new { earlier.now ≡ None → IfOk result (λ job. (f : Function) → IsAnew f step.now records.now job.prepared job.results.items) }
-    ensures goes_on { IfSome earlier.now (λ e. IfOk result (λ job. (f : Function) → IsOfStoppedRun f records.now e.saved.now e.results.now →
+    ensures new { earlier.now ≡ None → IfOk result (λ job. (f : Function) → IsFresh f step.now records.now job.prepared job.results.items) }
+    ensures goes_on { IfSome earlier.now (λ e. IfOk result (λ job. (f : Function) → HoldsStoppedRun f records.now e.saved.now e.results.now →
         IsSoFar f records.now job.prepared.rows job.results.items)) }
     ensures goes_on_by_rules { IfSome earlier.now (λ e. IfOk result (λ job. (f : Function) →
-        IsOfStoppedRun f records.now e.saved.now e.results.now × IsSteady f × FollowAgain f step.now.rules records.now e.saved.now →
+        HoldsStoppedRun f records.now e.saved.now e.results.now × IsSteady f × FollowAgain f step.now.rules records.now e.saved.now →
         GoesOnByRules f step.now.rules records.now job.prepared job.results.items)) }
 {
     match earlier {
@@ -104,7 +107,7 @@ pub(crate) fn begun(
     }
 }
 
-/// Runs the step over a desk of its own.
+/// Runs the step over its own desk.
 fn run_on<
     F: StepFunction + Drop + 'static,
     L: Ledger + Send + Sync + 'static,

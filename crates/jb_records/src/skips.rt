@@ -14,7 +14,7 @@ use jb_rows::RowBuilder;
 use jb_rules::Row;
 use std::alloc::{AllocError, Global};
 
-/// Puts the record of this number behind the others, if it is refused.
+/// Adds the record of this number to the others, if it is refused.
 fn push_skip<F: StepFunction>(
     function: &F,
     records: &PackedList,
@@ -31,7 +31,7 @@ fn push_skip<F: StepFunction>(
     Ok(())
 }
 
-/// Puts the records from number `lo` to `hi - 1` that are refused behind the others.
+/// Adds to the others the records from number `lo` to `hi - 1` that are refused.
 fn push_skips<F: StepFunction>(
     function: &F,
     records: &PackedList,

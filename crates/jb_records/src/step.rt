@@ -6,8 +6,8 @@ ghost use Rattle.jb_base.specs.Limits.{max_item_count, max_partitions_asked, max
 use jb_base::{Name, Rules};
 use std::alloc::{AllocError, Global};
 
-/// A step over records: its name in its saved rows, its partitions, which divide the records evenly, its threads, the number of
-/// records in a chunk, and what is skipped and retried.
+/// A step over records: its name in its saved rows, its partitions (which divide the records evenly), its threads, the number of records in
+/// a chunk, and what is skipped and retried.
 #[derive(Drop)]
 pub struct RecordsStep {
     pub id: Name,

@@ -9,7 +9,7 @@ use jb_rows::{Outcome, Row, RowBuilder, RowFunction};
 use std::alloc::{AllocError, Global};
 
 /// What a step does to each of its records, and which first tries at a record fail. Every `RowFunction` is one of which no try fails, and
-/// `Shaky` is one for a simulation. All partitions share one value of it, so that it may keep tables.
+/// `Shaky` is one for a simulation. All partitions share one value of it, so it may hold tables.
 pub trait StepFunction: Send + Sync {
     ghost function: { Self → Function };
 

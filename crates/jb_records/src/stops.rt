@@ -15,7 +15,7 @@ use jb_rules::{Choice, Row, decide};
 use jb_slices::choices_are_the_rules;
 use std::alloc::{AllocError, Global};
 
-/// Whether a refusal with this class passes after so many skips. It comes at each try, so that no retry is left.
+/// Whether a refusal with this class passes after so many skips. It comes at each try, so no retry is left.
 fn passes(rules: &Rules, class: ClassId, skips: u64) -> bool
     ensures skip { result ≡ true → choice_of rules.now class true skips rules.now.retry_limit ≡ Skip }
     ensures fail { result ≡ false → choice_of rules.now class true skips rules.now.retry_limit ≡ Fail }
@@ -28,7 +28,7 @@ fn passes(rules: &Rules, class: ClassId, skips: u64) -> bool
 }
 
 /// The record by whose fault the partition of this row fails: the first one from its checkpoint on whose refusal the rules don't let pass
-/// after the skips before it. None if all records of its range pass. Calls the function on the records up to that one.
+/// after the skips before it. None if all records of its range pass. It calls the function on the records up to that one.
 pub fn stop_of<F: StepFunction>(
     alloc: Global,
     function: &F,

@@ -17,7 +17,7 @@ use Rattle.jb_rules.specs.Rows.{state_at}
 use Rattle.jb_repo.specs.Rows.{replayed_row, repeats_in}
 use Rattle.jb_repo.specs.Table.{Journal, refusal, AcceptedPast, is_good_commit, is_commit_of}
 use Rattle.jb_repo.specs.Openable.{IsOpenable}
-use Rattle.jb_repo.specs.inside.Below.{LawsOfRowsBelow}
+use Rattle.jb_repo.specs.inside.LowerLaws.{LowerRowLaws}
 use Rattle.jb_repo.specs.inside.Steps.{CanStep, IsCommit}
 use Rattle.jb_base.specs.Limits.{max_rollbacks, max_retry_limit, max_in_place}
 use Rattle.jb_repo.proofs.RowLemmas.{step, own-yes, own-no, own-none, owner-yes, owner-no, replayed_row-step, plus_counts-zero}
@@ -377,7 +377,7 @@ pub some_of : (o : Option ℕ) (p : ℕ) → is_some_of o p ≡ true → o ≡ S
 some_of None p h = absurd cc
 some_of (Some q) p h = ap Some (grind (arith, nat_tests))
 
-module _ (laws : LawsOfRowsBelow) (j : Journal) (ready : IsOpenable j) (p : ℕ) (r : Row) (opens : slice_get j.opening p ≡ Some r) where
+module _ (laws : LowerRowLaws) (j : Journal) (ready : IsOpenable j) (p : ℕ) (r : Row) (opens : slice_get j.opening p ≡ Some r) where
   sound_after : (e : Event) (past : List Event) (mine : Bool) → refusal (at_past j past) e ≡ None → AcceptedPast j past → is_some_of (partition_of e past) p ≡ mine → IsSoundRow (replayed_row j.item_count r (own p past))
       → IsSoundRow (replayed_row j.item_count r (cond mine (e ∷ own p past) (own p past)))
   sound_after e past false passes ok is sound = sound

@@ -9,7 +9,7 @@ use Rattle.jb_repo.specs.Rows.{replayed_row, rows_from, total_counts}
 use Rattle.jb_repo.specs.Table.{Journal, refusal, AcceptedPast}
 use Rattle.jb_repo.specs.Openable.{IsOpenable}
 use Rattle.jb_repo.specs.Laws.{CommitsAreCounted}
-use Rattle.jb_repo.specs.inside.Below.{LawsOfRowsBelow}
+use Rattle.jb_repo.specs.inside.LowerLaws.{LowerRowLaws}
 use Rattle.jb_repo.specs.inside.Steps.{CanStep}
 use Rattle.jb_repo.proofs.Consistent.{at_past, consistent, about, can, rows-sound}
 use Rattle.jb_repo.proofs.Passing.{row_of-is, commit_passes}
@@ -32,7 +32,7 @@ counted-set (row ∷ rows) zero old new h = let e : row ≡ old = cc in let f = 
 counted-set (row ∷ rows) (suc i) old new h = let t = counted-set rows i old new h in omega (arith, t)
 
 -- a Commit adds one commit to its row, and no other event does
-counted-step : LawsOfRowsBelow → (c : ℕ) (row : Row) (e : Event) → CanStep c row e → (step c row e).counts.commit ≡ row.counts.commit + one (is_commit_event e)
+counted-step : LowerRowLaws → (c : ℕ) (row : Row) (e : Event) → CanStep c row e → (step c row e).counts.commit ≡ row.counts.commit + one (is_commit_event e)
 counted-step laws c row (Plan n k) can = omega arith
 counted-step laws c row (Begin l p) can = omega arith
 counted-step laws c row (Commit l d w a) can = let k = (commit_facts laws c row (counts_in d) w can.commit).delta.commit in omega (arith, k)
@@ -53,7 +53,7 @@ no_commit j past (Drop l) ok part = refl
 no_commit j past Round ok part = refl
 no_commit j past Stop ok part = refl
 
-module _ (laws : LawsOfRowsBelow) (j : Journal) (ready : IsOpenable j) where
+module _ (laws : LowerRowLaws) (j : Journal) (ready : IsOpenable j) where
   one_more : (e : Event) (past : List Event) → refusal (at_past j past) e ≡ None → AcceptedPast j past → (o : Option ℕ) → partition_of e past ≡ o
       → counted (rows_from j.item_count (e ∷ past) 0 j.opening) ≡ counted (rows_from j.item_count past 0 j.opening) + one (is_commit_event e)
   one_more e past passes ok None part =
@@ -79,5 +79,5 @@ module _ (laws : LawsOfRowsBelow) (j : Journal) (ready : IsOpenable j) where
       let new = one_more e past ok.0 ok.1 (partition_of e past) refl in
       omega (arith, old, new)
 
-pub commits_are_counted : LawsOfRowsBelow → CommitsAreCounted
+pub commits_are_counted : LowerRowLaws → CommitsAreCounted
 commits_are_counted laws j law = all_counted laws j law.ready j.past law.accepted

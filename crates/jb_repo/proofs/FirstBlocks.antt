@@ -10,13 +10,13 @@ use Rattle.jb_repo.specs.Rows.{replayed_row}
 use Rattle.jb_repo.specs.Table.{Journal, refusal, AcceptedPast}
 use Rattle.jb_repo.specs.Openable.{IsOpenable}
 use Rattle.jb_repo.specs.Laws.{TakesFirstBlock, CommitsTakeFirstBlocks}
-use Rattle.jb_repo.specs.inside.Below.{LawsOfRowsBelow}
+use Rattle.jb_repo.specs.inside.LowerLaws.{LowerRowLaws}
 use Rattle.jb_repo.proofs.Consistent.{at_past, accepted_before, consistent, commit_of_row, rows-sound}
 use Rattle.jb_repo.proofs.Passing.{row_of-is, commit_passes}
 use Rattle.jb_repo.proofs.Stepping.{commit_facts, passed-block, running-before-end}
 use Rattle.jb_repo.proofs.Tables.{at_some}
 
-takes_first : LawsOfRowsBelow → (j : Journal) → IsOpenable j → (past : List Event) (l : ℕ) (d : Delta) (w a : ℕ) → refusal (at_past j past) (Commit l d w a) ≡ None → AcceptedPast j past → TakesFirstBlock (at_past j past) l (counts_in d)
+takes_first : LowerRowLaws → (j : Journal) → IsOpenable j → (past : List Event) (l : ℕ) (d : Delta) (w a : ℕ) → refusal (at_past j past) (Commit l d w a) ≡ None → AcceptedPast j past → TakesFirstBlock (at_past j past) l (counts_in d)
 takes_first laws j ready past l d w a passes ok =
     let q = commit_passes (at_past j past) l d w a passes in
     let p = q.0.partition in
@@ -40,7 +40,7 @@ takes_first laws j ready past l d w a passes ok =
       passed = omega (arith, next.from, passed);
     }
 
-pub commits_take_first_blocks : LawsOfRowsBelow → CommitsTakeFirstBlocks
+pub commits_take_first_blocks : LowerRowLaws → CommitsTakeFirstBlocks
 commits_take_first_blocks laws j law later past l d w a is =
     let ok = accepted_before j later (Commit l d w a ∷ past) (subst (λ (x : List Event). AcceptedPast j x) is law.accepted) in
     takes_first laws j law.ready past l d w a ok.0 ok.1

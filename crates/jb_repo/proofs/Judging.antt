@@ -16,7 +16,7 @@ use Rattle.jb_repo.specs.Rows.{remaining}
 use Rattle.jb_repo.specs.Table.{Journal, refusal, first_refusal, outcome_conditions, undone_conditions, row_of, rows_of, reserved, is_full, is_good_plan, is_commit_of}
 use Rattle.jb_repo.specs.Openable.{IsReplayable}
 use Rattle.jb_repo.specs.Laws.{MayPlan, IsCertified, GoodPlansAreAccepted, BadPlansAreRefused, MayEndRound, GoodRoundsAreAccepted, PlacedStopsAreAccepted, IsCommitOfNext, GoodCommitsAreAccepted, BadCommitsAreRefused, RunningLanesMayEnd}
-use Rattle.jb_repo.specs.inside.Below.{LawsOfRowsBelow}
+use Rattle.jb_repo.specs.inside.LowerLaws.{LowerRowLaws}
 use Rattle.jb_repo.proofs.Consistent.{consistent}
 use Rattle.jb_repo.proofs.Passing.{none_below, plan_passes, round_passes, stop_passes}
 use Rattle.jb_repo.proofs.Stepping.{commit_facts}
@@ -143,7 +143,7 @@ running_lanes_may_end j law l p owned =
     λ again few. (let enough = not_more again few in rw (there, owned, enough) refl) in
     record { rolled = λ class again few. undone again few; failed = λ class again few. undone again few; dropped = accepted }
 
-module _ (laws : LawsOfRowsBelow) (j : Journal) (law : IsReplayable j) (l p : ℕ) (row : Row) (owned : owner l j.past ≡ Some p) (is : row_of j p ≡ Some row) (d : Delta) (w a : ℕ) (few : a ≤ max_retry_limit) where
+module _ (laws : LowerRowLaws) (j : Journal) (law : IsReplayable j) (l p : ℕ) (row : Row) (owned : owner l j.past ≡ Some p) (is : row_of j p ≡ Some row) (d : Delta) (w a : ℕ) (few : a ≤ max_retry_limit) where
   judged : refusal j (Commit l d w a) ≡ first_refusal ((false, LaneRange) ∷ (false, NotRunning) ∷ (not (is_commit_of j.item_count row (counts_in d) w), BadDelta) ∷ [])
   judged =
       let enough = not_more a few in
@@ -171,8 +171,8 @@ module _ (laws : LawsOfRowsBelow) (j : Journal) (law : IsReplayable j) (l p : �
     λ h. let bad = uncertified (is_commit_of j.item_count row (counts_in d) w) (λ good. h (commit_of_next good)) in judged ∙ rw bad refl,
   )
 
-pub good_commits_are_accepted : LawsOfRowsBelow → GoodCommitsAreAccepted
+pub good_commits_are_accepted : LowerRowLaws → GoodCommitsAreAccepted
 good_commits_are_accepted laws j law l p row owned is d w a few = accepted laws j law l p row owned is d w a few
 
-pub bad_commits_are_refused : LawsOfRowsBelow → BadCommitsAreRefused
+pub bad_commits_are_refused : LowerRowLaws → BadCommitsAreRefused
 bad_commits_are_refused laws j law l p row owned is d w a few = refused laws j law l p row owned is d w a few

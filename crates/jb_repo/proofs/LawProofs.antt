@@ -14,7 +14,7 @@ use Rattle.jb_rules.specs.States.{is_running}
 use Rattle.jb_repo.specs.History.{owner, own, partition_of, is_some_of, some, number, events_since, is_plan, is_round, ends_plan, is_closed, planned_rounds}
 use Rattle.jb_rules.specs.Rows.{state_at}
 use Rattle.jb_repo.specs.Rows.{replayed_row, rows_from, at_after, advances, remaining}
-use Rattle.jb_repo.specs.inside.Below.{LawsOfRowsBelow}
+use Rattle.jb_repo.specs.inside.LowerLaws.{LowerRowLaws}
 use Rattle.jb_cert.specs.Laws.{LeastPlanMeans}
 use Rattle.jb_rules.specs.Rows.{row_block}
 use Rattle.jb_repo.specs.Table.{Journal, refusal, after, AcceptedPast, row_of, rows_of, reserved}
@@ -68,7 +68,7 @@ rows_show_lanes j law l p = (row_from_owner j law l p, owner_from_row j law l p)
 pub lanes_are_known : LanesAreKnown
 lanes_are_known j law l p owned = let k = (known j law).lanes l p owned in (k.lane, k.partition)
 
-pub rows_are_sound : LawsOfRowsBelow → RowsAreSound
+pub rows_are_sound : LowerRowLaws → RowsAreSound
 rows_are_sound laws j law p row is = row_sound laws j law.ready law.accepted p row is
 
 -- BLOCKS
@@ -92,7 +92,7 @@ module _ (j : Journal) (p : ℕ) (r : Row) where
 abbrev pub joined : Journal → ℕ → Row → List Event → Type 0
 joined j p r own = AreConsecutive r.at (committed_blocks j.item_count r own) (at_after r own)
 
-module _ (laws : LawsOfRowsBelow) (j : Journal) (ready : IsOpenable j) (p : ℕ) (r : Row) (opens : slice_get j.opening p ≡ Some r) where
+module _ (laws : LowerRowLaws) (j : Journal) (ready : IsOpenable j) (p : ℕ) (r : Row) (opens : slice_get j.opening p ≡ Some r) where
   -- an accepted Commit passes the partition's next block
   passed : (past : List Event) → AcceptedPast j past → (l : ℕ) (d : Delta) (w a : ℕ) → refusal (at_past j past) (Commit l d w a) ≡ None → owner l past ≡ Some p
       → (replayed_row j.item_count r (own p past)).at + (d.read + d.read_skip) ≡ (row_block j.item_count (replayed_row j.item_count r (own p past))).hi
@@ -118,12 +118,12 @@ module _ (laws : LawsOfRowsBelow) (j : Journal) (ready : IsOpenable j) (p : ℕ)
   consecutive (e ∷ past) ok =
       consecutive_at e past ok.0 ok.1 (is_some_of (partition_of e past) p) refl (consecutive past ok.1)
 
-pub commits_are_consecutive : LawsOfRowsBelow → CommitsAreConsecutive
+pub commits_are_consecutive : LowerRowLaws → CommitsAreConsecutive
 commits_are_consecutive laws j law p opening opens = consecutive laws j law.ready p opening opens j.past law.accepted
 
 -- THE LIFE OF A ROW
 
-module _ (laws : LawsOfRowsBelow) (j : Journal) (law : IsReplayable j) (e : Event) (passes : refusal j e ≡ None) (p : ℕ) (row : Row) (is : row_of j p ≡ Some row) where
+module _ (laws : LowerRowLaws) (j : Journal) (law : IsReplayable j) (e : Event) (passes : refusal j e ≡ None) (p : ℕ) (row : Row) (is : row_of j p ≡ Some row) where
   changed : (r : Row) (mine : Bool) → row ≡ replayed_row j.item_count r (own p j.past) → is_some_of (partition_of e j.past) p ≡ mine
       → replayed_row j.item_count r (cond mine (e ∷ own p j.past) (own p j.past)) ≡ cond mine (next_row j.item_count row e) row
   changed r true becomes about =
@@ -137,7 +137,7 @@ module _ (laws : LawsOfRowsBelow) (j : Journal) (law : IsReplayable j) (e : Even
       let o = has_opening j p row is in
       row_of-is (after j e) p o.opening o.opens ∙ ap Some (changed o.opening (is_some_of (partition_of e j.past) p) o.becomes refl)
 
-pub rows_live_on : LawsOfRowsBelow → RowsLiveOn
+pub rows_live_on : LowerRowLaws → RowsLiveOn
 rows_live_on laws j law e passes p row is = lives_on laws j law e passes p row is
 
 -- ORDER

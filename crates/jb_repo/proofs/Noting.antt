@@ -10,7 +10,7 @@ use Rattle.jb_repo.specs.History.{own, partition_of, is_some_of, number, events_
 use Rattle.jb_repo.specs.Rows.{rows_from, gain, gains, replayed_row, total_counts}
 use Rattle.jb_repo.specs.Table.{Journal, Accepted, refusal, after, rows_of}
 use Rattle.jb_repo.specs.Openable.{IsOpenable}
-use Rattle.jb_repo.specs.inside.Below.{LawsOfRowsBelow}
+use Rattle.jb_repo.specs.inside.LowerLaws.{LowerRowLaws}
 use Rattle.jb_repo.specs.inside.Fit.{CountsFit}
 use Rattle.jb_repo.specs.inside.Projection.{IsInPlace}
 use Rattle.jb_repo.proofs.RowLemmas.{own-yes, own-no, rows_from-none, rows_from-before, plus_counts-swap, plus_counts-zero, plus_counts_assoc}
@@ -99,7 +99,7 @@ module _ (j : Journal) (ready : IsOpenable j) (ok : Accepted j) (e : Event) (pas
   totals_after = totals-about (partition_of e j.past) refl
 
   -- they fit their words
-  pub sums_fit : LawsOfRowsBelow → SumsFit (total_counts (rows_of j)) (gain e)
+  pub sums_fit : LowerRowLaws → SumsFit (total_counts (rows_of j)) (gain e)
   sums_fit laws =
       let table = is_table laws (after j e) (still_openable j (e ∷ j.past) j.room ready) (passes, ok) in
       let fit = totals_fit (rows_of (after j e)) table.few_rows table.sound in

@@ -11,7 +11,7 @@ use Rattle.std.proofs.Common.{get_or, ap, length}
 use Rattle.std.proofs.lemmas.List.{length-map}
 use Rattle.std.proofs.lemmas.Option.{slice_get_within}
 use Rattle.std.proofs.lemmas.List.Sums.{sum_by-cons}
-use Rattle.jb_repo.specs.inside.Below.{LawsOfRowsBelow}
+use Rattle.jb_repo.specs.inside.LowerLaws.{LowerRowLaws}
 use Rattle.jb_base.specs.Limits.{max_records}
 use Rattle.jb_plan.specs.Ranges.{HaveNoneInCommon, AreDisjoint}
 use Rattle.jb_rules.specs.Rows.{range_of, remaining_of}
@@ -95,7 +95,7 @@ all_below-le (suc n) rows apart = omega (arith, all_below-more n rows, one_stand
 
 -- BLOCKS
 
-remaining_of-le : LawsOfRowsBelow → (c : ℕ) (row : Row) (state : RowState) → 1 ≤ c → IsSoundRow row → remaining_of c row state ≤ row.hi - row.lo
+remaining_of-le : LowerRowLaws → (c : ℕ) (row : Row) (state : RowState) → 1 ≤ c → IsSoundRow row → remaining_of c row state ≤ row.hi - row.lo
 remaining_of-le laws c row Waiting some s =
     let few = laws.chunks.few row.at row.redo row.hi c s.placed.at_to s.placed.redo_to some in omega (arith, few, s.placed.at_from)
 remaining_of-le laws c row (Running l) some s = omega arith
@@ -106,7 +106,7 @@ below-all : (r : Row) → r.hi ≤ max_records → r.hi - r.lo ≤ below max_rec
 unfolding below
 below-all r small = omega arith
 
-remaining-below : LawsOfRowsBelow → (c : ℕ) (past : List Event) (first : ℕ) (rows : List Row) → 1 ≤ c → ((i : ℕ) (r : Row) → slice_get rows i ≡ Some r → IsSoundRow (replayed_row c r (own (first + i) past))) → sum (remaining c (rows_from c past first rows)) ≤ all_below max_records rows
+remaining-below : LowerRowLaws → (c : ℕ) (past : List Event) (first : ℕ) (rows : List Row) → 1 ≤ c → ((i : ℕ) (r : Row) → slice_get rows i ≡ Some r → IsSoundRow (replayed_row c r (own (first + i) past))) → sum (remaining c (rows_from c past first rows)) ≤ all_below max_records rows
 remaining-below laws c past first [] some sound = omega arith
 remaining-below laws c past first (r ∷ rows) some sound =
     let z : first + 0 ≡ first = omega arith in
@@ -120,7 +120,7 @@ remaining-below laws c past first (r ∷ rows) some sound =
     omega (arith, one, head, here, tail)
 
 -- no more blocks are left than records may stand in the ranges
-pub remaining-small : LawsOfRowsBelow → (c : ℕ) (past : List Event) (rows : List Row) → 1 ≤ c → AreDisjoint (map range_of rows) → ((i : ℕ) (r : Row) → slice_get rows i ≡ Some r → IsSoundRow (replayed_row c r (own i past))) → sum (remaining c (rows_from c past 0 rows)) ≤ max_records
+pub remaining-small : LowerRowLaws → (c : ℕ) (past : List Event) (rows : List Row) → 1 ≤ c → AreDisjoint (map range_of rows) → ((i : ℕ) (r : Row) → slice_get rows i ≡ Some r → IsSoundRow (replayed_row c r (own i past))) → sum (remaining c (rows_from c past 0 rows)) ≤ max_records
 remaining-small laws c past rows some disjoint sound =
     let a = remaining-below laws c past 0 rows some (λ i r o. let z : i ≡ 0 + i = omega arith in subst (λ (x : ℕ). IsSoundRow (replayed_row c r (own x past))) z (sound i r o)) in
     omega (arith, a, all_below-le max_records rows (apart_of rows disjoint))

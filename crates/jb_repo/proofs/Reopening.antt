@@ -6,7 +6,7 @@ use Rattle.jb_rules.specs.States.{is_running}
 use Rattle.jb_repo.specs.Table.{Journal, row_of, reserved}
 use Rattle.jb_repo.specs.Openable.{IsReplayable}
 use Rattle.jb_repo.specs.Laws.{OpeningsAreAccepted, RowsMayBeOpenedAgain}
-use Rattle.jb_repo.specs.inside.Below.{LawsOfRowsBelow}
+use Rattle.jb_repo.specs.inside.LowerLaws.{LowerRowLaws}
 use Rattle.jb_repo.proofs.LawProofs.{none_runs}
 use Rattle.jb_repo.proofs.Noting.{rows_from-opening}
 use Rattle.jb_repo.proofs.Tables.{has_opening, row_sound, is_table}
@@ -17,14 +17,14 @@ openings_are_accepted rows threads item_count ready = record {
   rows = rows_from-opening item_count 0 rows;
 }
 
-idle : LawsOfRowsBelow → (j : Journal) → IsReplayable j → reserved j ≡ 0 → (p : ℕ) (row : Row) → row_of j p ≡ Some row → IsSoundRow row × (is_running row.state ≡ false)
+idle : LowerRowLaws → (j : Journal) → IsReplayable j → reserved j ≡ 0 → (p : ℕ) (row : Row) → row_of j p ≡ Some row → IsSoundRow row × (is_running row.state ≡ false)
 idle laws j law still p row is =
     let o = has_opening j p row is in (
       row_sound laws j law.ready law.accepted p row is,
       ap (λ (r : Row). is_running r.state) o.becomes ∙ none_runs j law still p o.opening o.opens,
     )
 
-pub rows_may_be_opened_again : LawsOfRowsBelow → RowsMayBeOpenedAgain
+pub rows_may_be_opened_again : LowerRowLaws → RowsMayBeOpenedAgain
 rows_may_be_opened_again laws j law still =
     let table = is_table laws j law.ready law.accepted in
     record {

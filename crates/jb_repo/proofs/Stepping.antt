@@ -14,7 +14,7 @@ use Rattle.jb_repo.specs.declared.events.Event.{Event}
 use Rattle.jb_repo.specs.Deltas.{counts_in}
 use Rattle.jb_repo.specs.declared.events.Event.TheVariants.{Plan, Begin, Commit, Roll, Fail, Drop, Round, Stop}
 use Rattle.jb_repo.specs.Table.{is_commit_of}
-use Rattle.jb_repo.specs.inside.Below.{LawsOfRowsBelow}
+use Rattle.jb_repo.specs.inside.LowerLaws.{LowerRowLaws}
 use Rattle.jb_repo.specs.Laws.{next_row}
 use Rattle.jb_repo.specs.inside.Steps.{CanStep}
 use Rattle.jb_repo.proofs.RowLemmas.{step}
@@ -38,12 +38,12 @@ pub record IsCommitOf (c : ℕ) (row : Row) (d : Counts) (w : ℕ) : Type 0 wher
   pub delta : IsDelta ((row_block c row).hi - row.at) d
   pub written : w ≡ row.written + d.write
 
-pub commit_facts : (laws : LawsOfRowsBelow) (c : ℕ) (row : Row) (d : Counts) (w : ℕ) → is_commit_of c row d w ≡ true → IsCommitOf c row d w
+pub commit_facts : (laws : LowerRowLaws) (c : ℕ) (row : Row) (d : Counts) (w : ℕ) → is_commit_of c row d w ≡ true → IsCommitOf c row d w
 commit_facts laws c row d w h =
     let p = and_parts _ _ h in
     record { delta = (laws.deltas ((row_block c row).hi - row.at) d).0 p.0; written = eqb-true _ _ p.1 }
 
-module _ (laws : LawsOfRowsBelow) (c : ℕ) (row : Row) (some : 1 ≤ c) (s : IsSoundRow row) (lt : row.at < row.hi) where
+module _ (laws : LowerRowLaws) (c : ℕ) (row : Row) (some : 1 ≤ c) (s : IsSoundRow row) (lt : row.at < row.hi) where
   block_some : row.at < (row_block c row).hi
   block_some = (laws.chunks.next row.at row.redo row.hi c lt s.placed.redo_to some).some
 
@@ -67,7 +67,7 @@ module _ (laws : LawsOfRowsBelow) (c : ℕ) (row : Row) (some : 1 ≤ c) (s : Is
   sound-commit l d w a few k =
       subst IsSoundRow (sym (commit-is l d w a k)) (laws.rows.committed (repeated_row row a) (row_block c row).hi (counts_in d) (laws.rows.repeated row a s few) block_some block_within k.delta)
 
-pub sound-step : (laws : LawsOfRowsBelow) (c : ℕ) (row : Row) → 1 ≤ c → (e : Event) → CanStep c row e → IsSoundRow (step c row e)
+pub sound-step : (laws : LowerRowLaws) (c : ℕ) (row : Row) → 1 ≤ c → (e : Event) → CanStep c row e → IsSoundRow (step c row e)
 sound-step laws c row some (Plan n k) can = can.sound
 sound-step laws c row some (Begin l p) can = laws.rows.begun row l can.sound can.unfinished
 sound-step laws c row some (Commit l d w a) can = sound-commit laws c row some can.sound can.unfinished l d w a can.few_repeats (commit_facts laws c row (counts_in d) w can.commit)
@@ -81,7 +81,7 @@ sound-step laws c row some Round can = can.sound
 sound-step laws c row some Stop can = can.sound
 
 -- where the row can take the step, the event does to it what it says of a row's life
-pub next-is : (laws : LawsOfRowsBelow) (c : ℕ) (row : Row) (e : Event) → 1 ≤ c → CanStep c row e → step c row e ≡ next_row c row e
+pub next-is : (laws : LowerRowLaws) (c : ℕ) (row : Row) (e : Event) → 1 ≤ c → CanStep c row e → step c row e ≡ next_row c row e
 next-is laws c row (Plan n k) some can = refl
 next-is laws c row (Begin l p) some can = refl
 next-is laws c row (Commit l d w a) some can =

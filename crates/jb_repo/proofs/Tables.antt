@@ -19,7 +19,7 @@ use Rattle.jb_repo.specs.Table.{Journal, Accepted, refusal, after, rows_of, row_
 use Rattle.jb_repo.specs.Openable.{IsOpenable}
 use Rattle.jb_repo.specs.Laws.{next_row}
 use Rattle.jb_repo.specs.Sound.{IsTable}
-use Rattle.jb_repo.specs.inside.Below.{LawsOfRowsBelow}
+use Rattle.jb_repo.specs.inside.LowerLaws.{LowerRowLaws}
 use Rattle.jb_repo.specs.inside.Steps.{stepped_rows, CanStep}
 use Rattle.jb_repo.proofs.RowLemmas.{length-rows_from, slice_get-rows_from, rows_from-none, rows_from-some}
 use Rattle.jb_repo.proofs.Consistent.{consistent, about, can, rows-sound}
@@ -59,19 +59,19 @@ opening_of j p row (Some r) h is =
 pub has_opening : (j : Journal) (p : ℕ) (row : Row) → row_of j p ≡ Some row → HasOpening j p row
 has_opening j p row is = opening_of j p row (slice_get j.opening p) refl is
 
-pub row_sound : LawsOfRowsBelow → (j : Journal) → IsOpenable j → Accepted j → (p : ℕ) (row : Row) → row_of j p ≡ Some row → IsSoundRow row
+pub row_sound : LowerRowLaws → (j : Journal) → IsOpenable j → Accepted j → (p : ℕ) (row : Row) → row_of j p ≡ Some row → IsSoundRow row
 row_sound laws j ready ok p row is =
     let o = has_opening j p row is in
     subst (λ (x : Row). IsSoundRow x) (sym o.becomes) (rows-sound laws j ready p o.opening o.opens j.past ok)
 
 -- the row of a partition that a lane runs has a record left
-pub row_unfinished : LawsOfRowsBelow → (j : Journal) → IsOpenable j → Accepted j → (l p : ℕ) (row : Row) → owner l j.past ≡ Some p → row_of j p ≡ Some row → row.at < row.hi
+pub row_unfinished : LowerRowLaws → (j : Journal) → IsOpenable j → Accepted j → (l p : ℕ) (row : Row) → owner l j.past ≡ Some p → row_of j p ≡ Some row → row.at < row.hi
 row_unfinished laws j ready ok l p row owned is =
     let o = has_opening j p row is in
     let s = (consistent j ready j.past ok).states l p o.opening owned o.opens in
     running-before-end row l (row_sound laws j ready ok p row is) (ap (λ (x : Row). x.state) o.becomes ∙ s)
 
-pub remaining_fits : LawsOfRowsBelow → (j : Journal) → IsOpenable j → Accepted j → sum (remaining j.item_count (rows_of j)) ≤ max_records
+pub remaining_fits : LowerRowLaws → (j : Journal) → IsOpenable j → Accepted j → sum (remaining j.item_count (rows_of j)) ≤ max_records
 remaining_fits laws j ready ok =
     remaining-small laws j.item_count j.past j.opening ready.some_items ready.disjoint (λ p r opens. rows-sound laws j ready p r opens j.past ok)
 
@@ -95,13 +95,13 @@ module _ (j : Journal) (ready : IsOpenable j) (ok : Accepted j) (e : Event) (pas
   pub about_row : (p : ℕ) → partition_of e j.past ≡ Some p → p < length j.opening
   about_row p part = about j j.past (consistent j ready j.past ok) e p passes part
 
-  pub can_step : LawsOfRowsBelow → (p : ℕ) (row : Row) → partition_of e j.past ≡ Some p → row_of j p ≡ Some row → CanStep j.item_count row e
+  pub can_step : LowerRowLaws → (p : ℕ) (row : Row) → partition_of e j.past ≡ Some p → row_of j p ≡ Some row → CanStep j.item_count row e
   can_step laws p row part is =
       let o = has_opening j p row is in
       subst (λ (x : Row). CanStep j.item_count x e) (sym o.becomes)
       (can j j.past (consistent j ready j.past ok) p o.opening o.opens (rows-sound laws j ready p o.opening o.opens j.past ok) e passes part)
 
-  pub table_after : LawsOfRowsBelow → (rows : List Row) (d : Row) (o : Option ℕ) → take (length j.opening) rows ≡ rows_of j → partition_of e j.past ≡ o → take (length j.opening) (stepped_rows j.item_count rows o e d) ≡ rows_of (after j e)
+  pub table_after : LowerRowLaws → (rows : List Row) (d : Row) (o : Option ℕ) → take (length j.opening) rows ≡ rows_of j → partition_of e j.past ≡ o → take (length j.opening) (stepped_rows j.item_count rows o e d) ≡ rows_of (after j e)
   table_after laws rows d None table part = table ∙ sym (rows_from-none j.item_count e j.past 0 j.opening part)
   table_after laws rows d (Some p) table part =
       let lt : p < length j.opening = about_row p part in
@@ -135,7 +135,7 @@ module _ (j : Journal) (ready : IsOpenable j) (ok : Accepted j) (e : Event) (pas
   inside_all None part = tt
   inside_all (Some p) part = omega (arith, about_row j ready ok e passes p part, ready.few_rows)
 
-  pub can_all : LawsOfRowsBelow → (rows : List Row) (o : Option ℕ) → take (length j.opening) rows ≡ rows_of j → partition_of e j.past ≡ o → IfSome o (λ p. (row : Row) → slice_get rows p ≡ Some row → CanStep j.item_count row e)
+  pub can_all : LowerRowLaws → (rows : List Row) (o : Option ℕ) → take (length j.opening) rows ≡ rows_of j → partition_of e j.past ≡ o → IfSome o (λ p. (row : Row) → slice_get rows p ≡ Some row → CanStep j.item_count row e)
   can_all laws rows None table part = tt
   can_all laws rows (Some p) table part = λ row h.
       can_step j ready ok e passes laws p row part (kept_get j rows p row table (about_row j ready ok e passes p part) h)
@@ -146,7 +146,7 @@ ranges-same c past first [] = refl
 ranges-same c past first (r ∷ rows) = ap (λ (rs : List Range). range_of r ∷ rs) (ranges-same c past (first + 1) rows)
 
 -- the rows of a repository are a table
-pub is_table : LawsOfRowsBelow → (j : Journal) → IsOpenable j → Accepted j → IsTable (rows_of j) (total_counts (rows_of j))
+pub is_table : LowerRowLaws → (j : Journal) → IsOpenable j → Accepted j → IsTable (rows_of j) (total_counts (rows_of j))
 is_table laws j ready ok =
     let n = length-rows_from j.item_count j.past 0 j.opening in
     record {

@@ -22,17 +22,17 @@ needed j e = length j.past + reserved j + places_of e
 abbrev pub HasPlaces : Journal → Type 0
 HasPlaces j = length j.past + reserved j ≤ j.room
 
--- the first refusal of the table; or Memory, where there is none and there was less room than the event needs
+-- the first refusal of the table; or Memory, if the table has none and there was less room than the event needs
 abbrev pub IsRefusal : Journal → Event → Refused → Type 0
 IsRefusal j e refused =
     (refusal j e ≡ Some refused) ⊎ ((refused ≡ Memory) × (refusal j e ≡ None) × (0 < places_of e) × (j.room < needed j e))
 
--- the event stands in the journal; the room is another one only where there was too little
+-- the event is in the journal; the room is another one only if there was too little
 pub record Enters (old : Journal) (e : Event) (new : Journal) : Type 0 where
   pub entered : new ≡ after (with_room old new.room) e
   pub in_place : needed old e ≤ old.room → new.room ≡ old.room
 
--- one event: it is accepted and stands in the journal, or it is refused and changes nothing
+-- one event: it is accepted and is in the journal, or it is refused and changes nothing
 abbrev pub Applies : Journal → Event → Option Refused → Journal → Type 0
 Applies old e None new = (refusal old e ≡ None) × Enters old e new
 Applies old e (Some refused) new = IsRefusal old e refused × (new ≡ old)

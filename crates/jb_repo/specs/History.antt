@@ -1,5 +1,5 @@
 -- Questions about a history. A history is a list of events, the newest first: in `e ∷ past` the event e comes after past.
--- (What a job repository keeps is left open by Jakarta Batch 2.1, "Job Repository"; the events are this project's own.)
+-- (Jakarta Batch 2.1, "Job Repository", leaves open what a job repository stores. The events are this project's own.)
 use Rattle.std.specs.Prelude.{ℕ, zero, suc, ◌+◌, nat_eq, nat_lt, Bool, true, false, not, ◌&&◌, ◌||◌, if◌then◌else◌, List, [], ◌∷◌, Option, Some, None, is_some}
 use Rattle.jb_base.specs.declared.class.ClassId.{ClassId}
 use Rattle.jb_repo.specs.declared.events.Event.{Event}
@@ -115,7 +115,7 @@ is_partition_marked partition past = some (begins_partition partition) (events_s
 
 -- PLANS
 
--- a Round stands after an event that ends the plan
+-- a Round comes after an event that ends the plan
 abbrev pub is_closed : List Event → Bool
 is_closed [] = false
 is_closed (e ∷ past) = (is_round e && some ends_plan past) || is_closed past
@@ -129,7 +129,7 @@ rounds_in _ = 0
 abbrev pub planned_rounds : List Event → ℕ
 planned_rounds past = rounds_in (last is_plan past)
 
--- A plan is open if after the last Plan stand fewer Rounds than it has, and no Round after a Roll, Fail, Drop or Stop
+-- A plan is open if fewer Rounds than it has come after the last Plan, and no Round after a Roll, Fail, Drop or Stop
 abbrev pub is_plan_open : List Event → Bool
 is_plan_open past = nat_lt (number is_round (events_since is_plan past)) (planned_rounds past) && not (is_closed (events_since is_plan past))
 

@@ -41,7 +41,7 @@ OpeningsAreAccepted =
     (rows : List Row) (threads item_count : ℕ) → IsOpenable (opened_journal rows threads item_count)
     → IsOpened (opened_journal rows threads item_count)
 
--- where no lane runs, the rows now are rows with which a repository may be opened
+-- if no lane runs, the rows now are rows with which a repository may be opened
 abbrev pub RowsMayBeOpenedAgain : Type 0
 RowsMayBeOpenedAgain =
     (j : Journal) → IsReplayable j → reserved j ≡ 0 → IsOpenable (opened_journal (rows_of j) j.threads j.item_count)
@@ -54,7 +54,7 @@ EventsAreFew = (j : Journal) → IsReplayable j → length j.past + reserved j �
 abbrev pub KindsAreFew : Type 0
 KindsAreFew = (j : Journal) → IsReplayable j → (test : Event → Bool) → number test j.past ≤ length j.past
 
--- as many chunks were ended as begun, but for those that run
+-- as many chunks were ended as started, but for those that run
 abbrev pub ChunksAreEnded : Type 0
 ChunksAreEnded = (j : Journal) → IsReplayable j → number is_begin j.past ≡ number is_outcome j.past + reserved j
 
@@ -98,7 +98,7 @@ RowsShowLanes = (j : Journal) → IsReplayable j → (l p : ℕ) → (owner l j.
 abbrev pub RowsAreSound : Type 0
 RowsAreSound = (j : Journal) → IsReplayable j → (p : ℕ) (row : Row) → row_of j p ≡ Some row → IsSoundRow row
 
--- THE LIFE OF A ROW
+-- THE STEPS OF A ROW
 
 -- what an event changes in the row of the partition that it is about
 abbrev pub next_row : ℕ → Row → Event → Row
@@ -109,7 +109,7 @@ next_row item_count row (Fail lane class again) = failed_row (repeated_row row a
 next_row item_count row (Drop lane) = dropped_row row
 next_row item_count row _ = row
 
--- an accepted event takes that row one step further in its life, and changes no other
+-- an accepted event takes that row one step further, and changes no other
 abbrev pub RowsLiveOn : Type 0
 RowsLiveOn =
     (j : Journal) → IsReplayable j → (e : Event) → refusal j e ≡ None → (p : ℕ) (row : Row) → row_of j p ≡ Some row
@@ -162,13 +162,13 @@ abbrev pub IsCommitOfNext : ℕ → Row → Counts → ℕ → Type 0
 IsCommitOfNext item_count row delta written =
     IsDelta ((row_block item_count row).hi - row.at) delta × (written ≡ row.written + delta.write)
 
--- a lane's Commit, after no more repeats than a chunk may make, is accepted exactly where it is one of the row's next block ..
+-- a lane's Commit, after no more repeats than a chunk may make, is accepted exactly if it is one of the row's next block ..
 abbrev pub GoodCommitsAreAccepted : Type 0
 GoodCommitsAreAccepted =
     (j : Journal) → IsReplayable j → (lane p : ℕ) (row : Row) → owner lane j.past ≡ Some p → row_of j p ≡ Some row
     → (delta : Delta) (written again : ℕ) → again ≤ max_retry_limit → (refusal j (Commit lane delta written again) ≡ None) ↔ IsCommitOfNext j.item_count row (counts_in delta) written
 
--- .. and is BadDelta exactly where it isn't
+-- .. and is BadDelta exactly if it isn't
 abbrev pub BadCommitsAreRefused : Type 0
 BadCommitsAreRefused =
     (j : Journal) → IsReplayable j → (lane p : ℕ) (row : Row) → owner lane j.past ≡ Some p → row_of j p ≡ Some row
@@ -204,7 +204,7 @@ OrderIsFree =
 
 -- PLANS
 
--- n is the number of rounds of a least lawful plan for the chunks that are left, and the certificate holds
+-- n is the number of rounds of a least plan (`IsLeastNumber`) for the chunks that are left, and the certificate holds
 abbrev pub IsCertified : Journal → ℕ → Certificate → Type 0
 IsCertified j n certificate =
     IsLeastNumber (remaining j.item_count (rows_of j)) j.threads n
@@ -216,20 +216,20 @@ PlansAreLeast =
     (j : Journal) → IsReplayable j → (later past : List Event) (n : ℕ) (certificate : Certificate) → j.past ≡ later ++ Plan n certificate ∷ past
     → IsCertified (with_past j past) n certificate
 
--- at most as many Rounds as the Plan has stand before the next Plan
+-- at most as many Rounds as the Plan has come before the next Plan
 abbrev pub RoundsArePlanned : Type 0
 RoundsArePlanned =
     (j : Journal) → IsReplayable j → (later past : List Event) (n : ℕ) (certificate : Certificate) → j.past ≡ later ++ Plan n certificate ∷ past
     → some is_plan later ≡ false → number is_round later ≤ n
 
--- a chunk is begun or committed, or a round is over
+-- a chunk is started or committed, or a round is over
 abbrev pub goes_well : Event → Bool
 goes_well (Begin lane partition) = true
 goes_well (Commit lane delta written again) = true
 goes_well Round = true
 goes_well _ = false
 
--- and exactly as many where all goes well, without a Roll, Fail, Drop or Stop
+-- and exactly as many if all goes well, without a Roll, Fail, Drop or Stop
 abbrev pub PlansAreRunWhole : Type 0
 PlansAreRunWhole =
     (j : Journal) → IsReplayable j → (between past : List Event) (m n : ℕ) (next certificate : Certificate)
@@ -241,7 +241,7 @@ goes_on (Begin lane partition) = true
 goes_on Round = true
 goes_on _ = false
 
--- after the event and a Round no Begin and no Round stands before the next Plan
+-- after the event and a Round no Begin and no Round comes before the next Plan
 abbrev pub EndsPlan : Event → Type 0
 EndsPlan e =
     (j : Journal) → IsReplayable j → (later between past : List Event) → j.past ≡ later ++ Round ∷ (between ++ e ∷ past)
@@ -262,13 +262,13 @@ pub record MayPlan (j : Journal) : Type 0 where
   pub none_runs : reserved j ≡ 0
   pub none_open : is_plan_open j.past ≡ false
 
--- a Plan is accepted exactly where there may be one, it is certified, and it has a place ..
+-- a Plan is accepted exactly if there may be one, it is certified, and it has a place ..
 abbrev pub GoodPlansAreAccepted : Type 0
 GoodPlansAreAccepted =
     (j : Journal) → IsReplayable j → (n : ℕ) (certificate : Certificate)
     → (refusal j (Plan n certificate) ≡ None) ↔ (MayPlan j × IsCertified j n certificate × (length j.past < max_events))
 
--- .. and is BadPlan exactly where there may be one and it isn't certified
+-- .. and is BadPlan exactly if there may be one and it isn't certified
 abbrev pub BadPlansAreRefused : Type 0
 BadPlansAreRefused =
     (j : Journal) → IsReplayable j → (n : ℕ) (certificate : Certificate)
@@ -281,12 +281,12 @@ pub record MayEndRound (j : Journal) : Type 0 where
   pub none_runs : reserved j ≡ 0
   pub one_open : is_plan_open j.past ≡ true
 
--- a Round is accepted exactly where a round may end, and it has a place
+-- a Round is accepted exactly if a round may end, and it has a place
 abbrev pub GoodRoundsAreAccepted : Type 0
 GoodRoundsAreAccepted =
     (j : Journal) → (refusal j Round ≡ None) ↔ (MayEndRound j × (length j.past < max_events))
 
--- a Stop is accepted exactly where it has a place beside the reserved ones
+-- a Stop is accepted exactly if it has a place beside the reserved ones
 abbrev pub PlacedStopsAreAccepted : Type 0
 PlacedStopsAreAccepted =
     (j : Journal) → (refusal j Stop ≡ None) ↔ (length j.past + reserved j < max_events)

@@ -1,4 +1,4 @@
--- What a repository's fields stand for, and what they keep.
+-- What a repository's fields mean, and what always holds of them.
 use Rattle.std.specs.Prelude.{◌≤◌, ◌+◌, length, reverse, vec_capacity}
 use Rattle.jb_base.specs.Limits.{max_events}
 use Rattle.jb_repo.specs.declared.repository.Repo.TheInside.{Inside}

@@ -1,5 +1,5 @@
--- The row of a partition after a history, by sums over its own events (this project's own choice; the counts are the
--- metrics of Jakarta Batch 2.1, "Metric").
+-- The row of a partition after a history, by sums over its own events (this project's own choice). The counts are the
+-- metrics of Jakarta Batch 2.1, "Metric".
 use Rattle.std.specs.Prelude.{ℕ, ◌+◌, max, Bool, true, false, if◌then◌else◌, List, [], ◌∷◌}
 use Rattle.jb_rules.specs.declared.counts.Counts.{Counts}
 use Rattle.jb_rules.specs.declared.row.Row.{Row}

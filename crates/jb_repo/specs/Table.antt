@@ -33,11 +33,11 @@ rows_of j = rows_from j.item_count j.past 0 j.opening
 abbrev pub row_of : Journal → ℕ → Option Row
 row_of j partition = slice_get (rows_of j) partition
 
--- how many events are the partition's own; none where there is no such partition
+-- how many events are the partition's own; 0 if there is no such partition
 abbrev pub own_events : Journal → ℕ → ℕ
 own_events j partition = if nat_lt partition (length j.opening) then length (own partition j.past) else 0
 
--- the class by which the partition failed, if it has a Fail; none where there is no such partition
+-- the class by which the partition failed, if there is such a partition and it has a Fail
 abbrev pub failure : Journal → ℕ → Option ClassId
 failure j partition = if nat_lt partition (length j.opening) then failure_in (own partition j.past) else None
 

@@ -93,15 +93,15 @@ ended_at_second ends =
     Plan 3 (Longest 1) ∷ Begin 0 0 ∷ Begin 1 1 ∷ Commit 0 (delta_of one_record_written) 1 0 ∷ Commit 1 (delta_of one_record_written) 1 0 ∷ Round
     ∷ Begin 0 1 ∷ Begin 1 0 ∷ Commit 0 (delta_of one_record_written) 2 0 ∷ (ends ++ Round ∷ Begin 0 1 ∷ Round ∷ [])
 
--- so many events are accepted, and then no chunk is begun and no round ends
+-- so many events are accepted, and then no chunk is started and no round ends
 abbrev pub no_further : ℕ → List (Option Refused)
 no_further n = replicate n None ++ Some PastPlan ∷ Some PastPlan ∷ []
 
--- so many events are accepted, and then a round may not end since a chunk was begun
+-- so many events are accepted, and then a round may not end since a chunk was started
 abbrev pub further : ℕ → List (Option Refused)
 further n = replicate n None ++ Some StillRunning ∷ []
 
--- so many events are accepted, and then no chunk is begun since a stop was asked for, and no round ends
+-- so many events are accepted, and then no chunk is started since a stop was asked for, and no round ends
 abbrev pub stopping : ℕ → List (Option Refused)
 stopping n = replicate n None ++ Some Stopping ∷ Some PastPlan ∷ []
 

@@ -1,4 +1,4 @@
-pub mod Below
+pub mod LowerLaws
 pub mod Fit
 pub mod Sized
 pub mod Projection

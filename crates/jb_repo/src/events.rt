@@ -11,14 +11,14 @@ use jb_cert::Certificate;
 use jb_rules::Counts;
 use std::mem::size_of;
 
-/// An event of a step. Owners and partitions are numbered from 0; a lane stands for a thread of the step.
+/// An event of a step. Owners and partitions are numbered from 0. A lane is a thread of the step.
 #[derive(Clone, Copy, Debug, PartialEq, Eq)]
 pub enum Event {
     /// A plan of so many rounds is opened, with the certificate that no plan has fewer.
     Plan(u64, Certificate),
     /// The lane begins the next chunk of the partition.
     Begin(u32, u32),
-    /// The lane's chunk is committed: what it adds to the counts, how many results the writer holds then, and how often a
+    /// The lane's chunk is committed: what it adds to the counts, how many results the writer then holds, and how often a
     /// call of it was repeated in place.
     Commit(u32, Delta, u32, u32),
     /// The lane's chunk is rolled back to be retried, by a fault of this class, after so many repeats in place.
@@ -29,7 +29,7 @@ pub enum Event {
     Drop(u32),
     /// A round is over.
     Round,
-    /// No plan is opened and no chunk begun from now on.
+    /// No plan is opened and no chunk started from now on.
     Stop,
 }
 

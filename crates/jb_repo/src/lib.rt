@@ -7,7 +7,7 @@
 //! - `repository`: the repository itself; `snapshot`: what it shows of itself; `opening`: what it may be opened with.
 //! - `laws`: what holds of every list of events.
 //! - `run`: the answers to a whole list of events.
-//! - `projection`: what the history says now, kept beside it: `owners`, `marks`, `plan_progress`, `failures`, and the rows by `table` and `steps`.
+//! - `projection`: what the history says now, stored beside it: `owners`, `marks`, `plan_progress`, `failures`, and the rows by `table` and `steps`.
 #![tactic(auto)]
 
 mod deltas;

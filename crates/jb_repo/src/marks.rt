@@ -1,4 +1,4 @@
-//! What was begun in this round.
+//! Which lanes and partitions started a chunk in this round.
 
 ghost use Rattle.std.specs.Prelude.{◌≡◌, ◌<◌, List, [], ◌∷◌};
 ghost use Rattle.jb_base.specs.Limits.{max_partitions, max_threads};
@@ -27,7 +27,7 @@ impl Marks {
         }
     }
 
-    /// Whether the lane was begun in this round.
+    /// Whether the lane started a chunk in this round.
     pub fn has_lane(&self, lane: u32) -> bool
         requires { lane < max_threads }
         ensures { (past : List Event) → ShowMarks self.now past → result ≡ is_lane_marked lane past }
@@ -35,7 +35,7 @@ impl Marks {
         self.lanes[lane as usize]
     }
 
-    /// Whether the partition was begun in this round.
+    /// Whether a chunk of the partition was started in this round.
     pub fn has_partition(&self, partition: u32) -> bool
         requires { partition < max_partitions }
         ensures { (past : List Event) → ShowMarks self.now past → result ≡ is_partition_marked partition past }

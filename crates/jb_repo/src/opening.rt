@@ -52,9 +52,9 @@ fn is_sized(partitions: usize, threads: u32, item_count: u64) -> bool
         && item_count <= MAX_ITEM_COUNT
 }
 
-/// Whether a repository may be opened with these rows, so many threads and this item count: 1 to 1,024 rows that are
-/// sound, none of them running, of ranges that have no record in common; 1 to 64 threads; an item count of 1 to
-/// 1,000,000.
+/// Whether a repository may be opened with these rows, so many threads and this item count. There may be 1 to 1,024 rows,
+/// each sound and none running, and no two of their ranges have a record in common. There may be 1 to 64 threads, and the
+/// item count is 1 to 1,000,000.
 pub fn can_open(rows: &[Row], threads: u32, item_count: u64) -> bool
     ensures { IsTrue result ↔ IsOpenable (opened_journal rows.now threads item_count) }
 {

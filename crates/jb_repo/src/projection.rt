@@ -1,4 +1,4 @@
-//! What a history says now, kept beside it so that no question walks it.
+//! What a history says now, stored beside it so that no question walks it.
 
 ghost use Rattle.std.specs.Prelude.{◌≡◌, ℕ, ◌<◌, ◌≤◌, List, ◌∷◌, Option, Some, IfSome, length, slice_get, slice_index_or};
 ghost use Rattle.jb_base.specs.Limits.{max_events, max_item_count, max_partitions};
@@ -13,7 +13,7 @@ ghost use Rattle.jb_repo.specs.inside.Steps.{CanStep, stepped_rows};
 
 use crate::events::Event;
 use crate::failures::Failures;
-use crate::laws::laws_below;
+use crate::laws::lower_laws;
 use crate::marks::Marks;
 use crate::owners::Owners;
 use crate::plan_progress::PlanProgress;
@@ -22,8 +22,9 @@ use crate::table::totals;
 use jb_base::{MAX_PARTITIONS, Range};
 use jb_rules::{Counts, Row};
 
-/// The rows now and their totals, how many events are each partition's own, how many places are reserved for outcomes,
-/// what the lanes run, what was begun in this round, the plans, and by which class each partition failed.
+/// What the history says now. Of the partitions: the rows and their totals, how many events are each one's own, and by which
+/// class each failed. Besides: how many places are reserved for outcomes, what the lanes run, what was started in this round,
+/// and the plans.
 #[derive(Drop)]
 pub struct Projection {
     pub rows: [Row; MAX_PARTITIONS],
@@ -37,7 +38,7 @@ pub struct Projection {
 }
 
 impl Projection {
-    /// What stands before the first event.
+    /// What holds before the first event.
     pub fn new(opening: &[Row]) -> Self
         requires few { length opening.now ≤ max_partitions }
         requires fit { CountsFit (total_counts opening.now) }
@@ -64,7 +65,7 @@ impl Projection {
         requires { (j : Journal) × CanEnter j self.old event item_count }
         ensures { (j : Journal) → CanEnter j self.old event item_count → Shows (after j event) self.new }
     {
-        laws_below();
+        lower_laws();
         let partition = self.owners.partition_of(event);
         step_rows(&mut self.rows, partition, event, item_count);
         count_own(&mut self.own_events, partition);
@@ -77,7 +78,7 @@ impl Projection {
     }
 }
 
-/// Steps the row of the partition that the event is about, where it is about one.
+/// Steps the row of the partition that the event is about, if it is about one.
 fn step_rows(
     rows: &mut [Row; MAX_PARTITIONS],
     partition: Option<u32>,
@@ -97,7 +98,7 @@ fn step_rows(
     }
 }
 
-/// Counts one more event of the partition that it is about, where it is about one.
+/// Counts one more event of the partition that it is about, if it is about one.
 fn count_own(counts: &mut [u64; MAX_PARTITIONS], partition: Option<u32>)
     requires inside { IfSome partition (λ p. p < max_partitions) }
     requires few { (p d : ℕ) → p < max_partitions → slice_index_or counts.old p d < max_events }

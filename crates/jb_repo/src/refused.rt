@@ -2,9 +2,9 @@
 
 use thiserror::Error;
 
-/// Why an event is refused. `Repo::apply` lists the refusals of each event, the first that holds being answered. `BadDelta` comes last
-/// of those of a `Commit`, a `Roll` or a `Fail`, after `LaneRange` and `NotRunning`: a `Commit` that isn't one of the partition's next
-/// block, or any of the three after more than 100,000 repeats in place.
+/// Why an event is refused. `Repo::apply` lists the refusals of each event, and the first that holds is answered. `BadDelta` comes last
+/// of those of a `Commit`, a `Roll` or a `Fail`, after `LaneRange` and `NotRunning`. It refuses a `Commit` that isn't one of the
+/// partition's next block, and any of the three after more than 100,000 repeats in place.
 #[derive(Clone, Copy, Debug, PartialEq, Eq, Error)]
 pub enum Refused {
     /// A stop was asked for.
@@ -16,16 +16,16 @@ pub enum Refused {
     /// There is no such lane.
     #[error("LaneRange")]
     LaneRange,
-    /// The lane has begun a chunk in this round.
+    /// The lane has started a chunk in this round.
     #[error("LaneBusy")]
     LaneBusy,
-    /// The partition's chunk of this round was begun, or the partition is finished or has failed.
+    /// The partition's chunk of this round was started, or the partition is finished or has failed.
     #[error("NotIdle")]
     NotIdle,
     /// The lane runs no chunk.
     #[error("NotRunning")]
     NotRunning,
-    /// The counts or the number of results are not those of a commit of the partition's next chunk, or more than 100,000 calls of the
+    /// The counts or the number of results are not those of a commit of the partition's next chunk. Or more than 100,000 calls of the
     /// chunk were repeated in place.
     #[error("BadDelta")]
     BadDelta,

@@ -7,7 +7,7 @@ ghost use Rattle.jb_repo.specs.Answers.{IsRefusal, HasPlaces, places_of, needed}
 ghost use Rattle.jb_repo.specs.Openable.{IsOpenable, IsReplayable, opened_journal};
 
 use crate::events::Event;
-use crate::laws::laws_below;
+use crate::laws::lower_laws;
 use crate::projection::Projection;
 use crate::refused::Refused;
 use crate::snapshot::Snapshot;
@@ -21,11 +21,11 @@ mod refusals;
 
 /// The job repository of a step: the rows that it was opened with, the events that it accepted, and what they say now.
 ///
-/// What a job repository keeps is left open by Jakarta Batch 2.1, "Job Repository"; that it is the list of events, and
-/// which events are accepted, is this project's own choice. Contracts see the opening rows, the threads, the item count,
-/// the history, and for how many events there is memory; all else follows from these. No call walks the history: an
-/// event costs the same however long it is, and a Plan or a snapshot as much as there are partitions. Only where its
-/// memory grows is the history copied, and by its growth that comes ever more rarely.
+/// Jakarta Batch 2.1, "Job Repository", leaves open what a job repository stores. That it is the list of events, and which
+/// events are accepted, is this project's own choice. Contracts see the opening rows, the threads, the item count, the
+/// history, and for how many events there is memory. All else follows from these. No call walks the history: an event
+/// costs the same however long it is, and a Plan or a snapshot as much as there are partitions. The history is copied only
+/// when its memory grows, and by its growth that comes ever more rarely.
 #[derive(Drop)]
 pub struct Repo {
     opening: Vec<Row>,
@@ -83,7 +83,7 @@ impl Repo {
     }
 
     /// How many events of the history are the partition's own: its Begins, and the outcomes of the lanes that ran it. 0
-    /// where there is no such partition.
+    /// if there is no such partition.
     pub fn own_events(&self, partition: u32) -> u64
         ensures { result ≡ own_events self.now partition }
     {
@@ -95,8 +95,8 @@ impl Repo {
         }
     }
 
-    /// The class of the partition's last Fail in the history. None where it has none, as for a partition that had failed
-    /// when the repository was opened, and where there is no such partition.
+    /// The class of the partition's last Fail in the history. `None` if it has no Fail, as for a partition that had failed
+    /// when the repository was opened, or if there is no such partition.
     pub fn failure(&self, partition: u32) -> Option<ClassId>
         ensures { result ≡ failure self.now partition }
     {
@@ -108,7 +108,7 @@ impl Repo {
     }
 
     /// The rows and totals now, the numbers of events and plans, and whether a stop was asked for. The only error is
-    /// want of memory for the rows.
+    /// out of memory for the rows.
     pub fn snapshot(&self) -> Result<Snapshot, AllocError>
         ensures { IfOk result (λ snapshot. IsSnapshot self.now snapshot) }
     {
@@ -127,18 +127,18 @@ impl Repo {
         *self.opening.allocator()
     }
 
-    /// Accepts the event, or refuses it and changes nothing. Where several refusals fit, the first is answered:
+    /// Accepts the event, or refuses it and changes nothing. If several refusals fit, the first is answered:
     ///
     /// - `Plan`: Stopping; StillRunning (a lane runs, or a plan is open); BadPlan; Full; Memory.
-    /// - `Begin`: Stopping; NoPartition; LaneRange; LaneBusy (the lane began a chunk in this round); NotIdle (the
-    ///   partition did, or is finished or failed); PastPlan (no plan is open); Full (no two places, or the partition has as
-    ///   many rollbacks as it may have, or no room for 100,000 repeats in place); Memory.
+    /// - `Begin`: Stopping; NoPartition; LaneRange; LaneBusy (the lane started a chunk in this round); NotIdle (the
+    ///   partition did, or is finished or failed); PastPlan (no plan is open); Full; Memory. Full: there are no two places, or
+    ///   the partition has as many rollbacks as it may have, or no room for 100,000 repeats in place.
     /// - `Commit`: LaneRange; NotRunning; BadDelta (it isn't one of the next block, or comes after more than 100,000 repeats).
     /// - `Roll`, `Fail`: LaneRange; NotRunning; BadDelta (after more than 100,000 repeats). `Drop`: LaneRange; NotRunning.
     /// - `Round`: StillRunning; PastPlan; Full; Memory. `Stop`: Full; Memory.
     ///
     /// A Begin reserves the place of its outcome, so Commit, Roll, Fail and Drop take no memory. Memory is the answer only
-    /// where there was less room than the event needs, and no memory is asked for where there was enough.
+    /// if there was less room than the event needs. If there was enough, the call takes no memory.
     pub fn apply(&mut self, event: Event) -> Result<(), Refused>
         ensures accepted { OnOk result ((refusal self.old event ≡ None) × (self.new ≡ after (with_room self.old self.new.room) event)) }
         ensures refused { IfErr result (λ refused. IsRefusal self.old event refused) }
@@ -161,7 +161,7 @@ impl Repo {
     }
 }
 
-/// Makes room for so many more events, where there isn't room for them.
+/// Makes room for so many more events, if there isn't room for them.
 fn make_room(history: &mut Vec<Event>, asked: usize) -> Result<(), AllocError>
     ensures items { history.new.items ≡ history.old.items }
     ensures len { vec_len history.new ≡ vec_len history.old }

@@ -8,7 +8,7 @@ use crate::refused::Refused;
 use crate::repository::Repo;
 use std::alloc::AllocError;
 
-/// Applies the events one after another and gives the answer to each: none where it was accepted, else why not. Where
+/// Applies the events one after another and gives the answer to each: `None` if it was accepted, else why not. If
 /// there is no memory for the answers, none of the events was applied.
 pub fn run_events(repo: &mut Repo, events: &[Event]) -> Result<Vec<Option<Refused>>, AllocError>
     ensures ok { IfOk result (λ answers. AppliesAll repo.old events.now answers.items repo.new) }

@@ -8,7 +8,7 @@ ghost use Rattle.jb_repo.specs.Laws.{next_row};
 ghost use Rattle.jb_repo.specs.Table.{is_commit_of};
 
 use crate::events::Event;
-use crate::laws::laws_below;
+use crate::laws::lower_laws;
 use jb_rules::{Counts, Row};
 
 /// Whether the delta and the number written are those of a commit of the row's next chunk.
@@ -30,7 +30,7 @@ pub fn stepped(row: Row, event: Event, item_count: u64) -> Row
     requires items { item_count ≤ max_item_count }
     ensures { result ≡ next_row item_count row event }
 {
-    laws_below();
+    lower_laws();
     match event {
         Event::Begin(lane, _) => row.begun(lane),
         Event::Commit(_, delta, _, again) => {

@@ -10,7 +10,7 @@ ghost use Rattle.jb_repo.specs.Table.{is_ended, is_at_limit};
 use jb_base::{MAX_IN_PLACE, MAX_RETRY_LIMIT, MAX_ROLLBACKS};
 use jb_rules::{Counts, Row};
 
-/// Whether no chunk of the partition is begun any more.
+/// Whether no chunk of the partition is started any more.
 pub fn is_ended(row: Option<Row>) -> bool
     ensures { result ≡ is_ended row }
 {
@@ -20,8 +20,8 @@ pub fn is_ended(row: Option<Row>) -> bool
     }
 }
 
-/// Whether the row is at its limits: it has as many rollbacks as it may have, or no room for 100,000 repeats in place, as many as one
-/// chunk may make. No chunk of it is begun or attempted then.
+/// Whether the row is at its limits: it has as many rollbacks as it may have, or no room for 100,000 repeats in place. One chunk may
+/// make as many. At its limits, no chunk of the row is started or attempted.
 pub fn is_at_limit(row: &Row) -> bool
     ensures test { result ≡ is_at_limit (Some row.now) }
     ensures rollbacks { result ≡ false → row.now.counts.rollback < max_rollbacks }

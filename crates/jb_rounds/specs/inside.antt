@@ -1,3 +1,3 @@
--- What only this crate's own functions and proofs speak of.
+-- Definitions for only this crate's own functions and proofs.
 pub mod Starts
 pub mod Index

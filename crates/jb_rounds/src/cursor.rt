@@ -14,11 +14,11 @@ use jb_cert::{Certificate, Slot, bound_is_least, least_rounds, wrap_around_is_le
 use std::alloc::{AllocError, Global};
 use std::marker::Model;
 
-/// The wrap-around of some counts of chunks over some threads, slot by slot. It keeps a number for each partition, and
-/// no round; contracts see the counts and the number of threads.
+/// The wrap-around of some counts of chunks over some threads, slot by slot. It stores a number for each partition, and
+/// no round. Contracts see the counts and the number of threads.
 #[derive(Debug, Drop)]
 pub struct RoundCursor {
-    // Where each partition begins in the row of all chunks, and at last where the last one ends.
+    // Where each partition begins in the row of all chunks, and finally where the last one ends.
     starts: Vec<u64>,
     threads: u32,
     rounds: u64,
@@ -34,14 +34,14 @@ impl Model for RoundCursor {
 }
 
 impl RoundCursor {
-    /// The cursor for these counts of chunks, one for each partition, and so many threads. The only error is want of
-    /// memory; no other call takes memory but `slots`.
+    /// The cursor for these counts of chunks, one for each partition, and so many threads. The only error is out of
+    /// memory. Of the other calls, only `slots` takes memory.
     pub fn new(alloc: Global, counts: &[u64], threads: u32) -> Result<Self, AllocError>
         requires { IsWithinLimits counts.now threads }
         ensures counts { IfOk result (λ cursor. cursor.counts ≡ counts.now) }
         ensures threads { IfOk result (λ cursor. cursor.threads ≡ threads) }
 
-        // The slots, round by round, are a lawful plan of the fewest rounds.
+        // The slots, round by round, are a valid plan of the fewest rounds.
         ensures least { IfOk result (λ cursor. StandsForLeast counts.now threads (wrapped_rounds cursor.counts cursor.threads)) }
     {
         wrap_around_is_least();
@@ -68,7 +68,7 @@ impl RoundCursor {
         ensures bound { result ≡ mcnaughton self.now.counts self.now.threads }
         ensures least { IsLeastNumber self.now.counts self.now.threads result }
 
-        // The slots, round by round, are a lawful plan of so many rounds, the fewest.
+        // The slots, round by round, are a valid plan of so many rounds, the fewest.
         ensures length { length (wrapped_rounds self.now.counts self.now.threads) ≡ result }
         ensures plan { StandsForLeast self.now.counts self.now.threads (wrapped_rounds self.now.counts self.now.threads) }
     {
@@ -86,7 +86,7 @@ impl RoundCursor {
         self.certificate
     }
 
-    /// How many lanes run a chunk in that round: the first so many; 0 from `rounds()` on.
+    /// How many lanes run a chunk in that round; they are the first ones. 0 from `rounds()` on.
     pub fn busy_lanes(&self, round: u64) -> u32
         ensures few { result ≤ self.now.threads }
         ensures busy { (lane : ℕ) → lane < result → IsSome (slot_of self.now.counts self.now.threads round lane) }
@@ -98,8 +98,8 @@ impl RoundCursor {
         (chunk_total(&self.starts) - round).div_ceil(self.rounds) as u32
     }
 
-    /// The partition that the lane runs in that round, and the number of its chunk; None where the lane has none, from
-    /// `rounds()` on and from the number of threads on. It is found by a binary search.
+    /// The partition that the lane runs in that round, and the number of its chunk. None if the lane has no chunk there,
+    /// which is so from `rounds()` on and from the number of threads on. It is found by a binary search.
     pub fn slot(&self, round: u64, lane: u32) -> Option<(u32, u64)>
         ensures value { result ≡ slot_of self.now.counts self.now.threads round lane }
         ensures partition { IfSome result (λ slot. slot.0 < length self.now.counts) }
@@ -110,9 +110,9 @@ impl RoundCursor {
         self.slot_near(round, lane, 0)
     }
 
-    /// The same, with the partition `near` and the one behind it looked at before the search. Whoever walks the rounds in
-    /// order, and gives for each lane the partition that it had in the round before, searches only where empty
-    /// partitions lie between. Any number will do.
+    /// The same, but the partition `near` and the next one are tried before the search. Walk the rounds in order, and
+    /// give for each lane the partition that it had in the round before. Then it searches only where empty partitions lie
+    /// between. Any number will do.
     pub fn slot_near(&self, round: u64, lane: u32, near: u32) -> Option<(u32, u64)>
         ensures value { result ≡ slot_of self.now.counts self.now.threads round lane }
         ensures partition { IfSome result (λ slot. slot.0 < length self.now.counts) }
@@ -132,8 +132,8 @@ impl RoundCursor {
         )
     }
 
-    /// The slot of a round that has no other; None where a round has several, and past the last one. The partition `near`
-    /// and the one behind it are looked at before the search, as by `slot_near`. On one thread each round has one slot.
+    /// The only slot of a round; None if the round has several, and past the last one. The partition `near` and the next
+    /// one are tried before the search, as by `slot_near`. On one thread each round has one slot.
     pub fn only_slot(&self, round: u64, near: u32) -> Option<Slot>
         ensures only { IfSome result (λ slot. slots_of_round self.now.counts self.now.threads round ≡ slot ∷ []) }
         ensures others { IfNone result (length (slots_of_round self.now.counts self.now.threads round) ≢ 1) }
@@ -149,7 +149,7 @@ impl RoundCursor {
         })
     }
 
-    /// The slots of a round, by rising lane; none past the last round. The only error is want of memory.
+    /// The slots of a round, by rising lane; none past the last round. The only error is out of memory.
     pub fn slots(&self, alloc: Global, round: u64) -> Result<Vec<Slot>, AllocError>
         ensures { IfOk result (λ slots. slots.items ≡ slots_of_round self.now.counts self.now.threads round) }
     {
@@ -169,7 +169,7 @@ impl RoundCursor {
     }
 }
 
-// Nothing where there is no chunk, else the first partition of as many chunks as there are rounds, else the full load.
+// Nothing if there is no chunk, else the first partition with as many chunks as there are rounds, else the full load.
 fn certificate_for(counts: &[u64], threads: u32, rounds: u64) -> Certificate
     requires limits { IsWithinLimits counts.now threads }
     requires rounds { rounds ≡ mcnaughton counts.now threads }
@@ -185,7 +185,7 @@ fn certificate_for(counts: &[u64], threads: u32, rounds: u64) -> Certificate
     }
 }
 
-// The first partition of so many chunks.
+// The first partition with so many chunks.
 fn first_of_count(counts: &[u64], wanted: u64) -> Option<usize>
     ensures value { result ≡ position (λ n. n == wanted) counts.now }
     ensures within { IfSome result (λ p. p < length counts.now) }

@@ -1,4 +1,4 @@
-//! The row of all chunks, partition after partition: where each partition begins, and which chunk stands at a place.
+//! The row of all chunks, partition after partition: where each partition begins, and which chunk is at a place.
 ghost use Rattle.std.specs.Prelude.{◌≡◌, ◌+◌, ◌-◌, ◌^◌, ◌<◌, ◌≤◌, length, slice_index, IfOk, IsTrue, sum, nat_lt, if◌then◌else◌};
 ghost use Rattle.std.specs.List.Sorted.{IsNonDecreasing};
 ghost use Rattle.jb_base.specs.Limits.{max_chunks, max_load_partitions};
@@ -8,7 +8,7 @@ ghost use Rattle.jb_rounds.specs.inside.Starts.{LiesBetween, starts_from, counts
 use jb_cert::places_lie_round;
 use std::alloc::{AllocError, Global};
 
-/// The prefix sums of the counts: where each partition begins, and at last where the last one ends.
+/// The prefix sums of the counts: where each partition begins, and finally where the last one ends.
 pub(crate) fn starts_of(alloc: Global, counts: &[u64]) -> Result<Vec<u64>, AllocError>
     requires { sum counts.now ≤ max_chunks }
     ensures { IfOk result (λ starts. starts.items ≡ starts_from 0 counts.now) }
@@ -32,7 +32,7 @@ pub(crate) fn chunk_total(starts: &[u64]) -> u64
 }
 
 /// The partition and chunk at a place of the row, which is cut into lanes of so many rounds. The partition `near` and the
-/// one behind it are looked at before the search.
+/// next one are tried before the search.
 pub(crate) fn pair_in(starts: &[u64], rounds: u64, place: u64, near: u32) -> Option<(u32, u64)>
     requires indexed { starts.now ≡ starts_from 0 (counts_between starts.now) }
     requires few_counts { length starts.now ≤ max_load_partitions + 1 }

@@ -9,11 +9,11 @@ use crate::cursor::RoundCursor;
 use jb_cert::{Certificate, Plan, Slot, bound_is_least, wrap_around_is_least};
 use std::alloc::{AllocError, Global};
 
-/// A lawful plan of the fewest rounds for these counts of chunks, one for each partition, on so many threads, by
-/// McNaughton's wrap-around of 1959, and the reason why no lawful plan has fewer.
+/// A valid plan of the fewest rounds for these counts of chunks, one for each partition, on so many threads. It is
+/// McNaughton's wrap-around of 1959, and comes with the reason why no valid plan has fewer.
 ///
-/// It has `least_rounds` rounds. The slots of a round stand by rising lane. The plan holds a slot for each chunk, and the
-/// work is in proportion to the chunks. The only error is want of memory.
+/// It has `least_rounds` rounds. The slots of a round come by rising lane. The plan holds a slot for each chunk, and the
+/// work is in proportion to the chunks. The only error is out of memory.
 pub fn plan(alloc: Global, counts: &[u64], threads: u32) -> Result<(Plan, Certificate), AllocError>
     requires { IsWithinLimits counts.now threads }
     ensures slots { IfOk result (λ made. plan_rounds made.0 ≡ wrapped_rounds counts.now threads) }

@@ -22,7 +22,7 @@ use Rattle.jb_rows.specs.declared.machine.Turn.TheVariants as turn
 abbrev pub marks_config : Marks → Config
 marks_config marks = config_with marks.quoting marks.delimiter
 
--- a place, and what a byte does, in the words of `csv`
+-- a place, and what a byte does, as `csv` names them
 abbrev pub csv_state : Place → State
 csv_state place.StartField = st.StartField
 csv_state place.InField = st.InField
@@ -37,8 +37,8 @@ csv_turn turn.EndRecord byte = (after_end term.CRLF byte, act.EndRecord)
 
 -- ---- MANY
 
--- whatever text comes after these bytes, the record that is read is the one that is read after them with what they did: so many fields, and
--- the bytes of one more
+-- Whatever text comes after these bytes, the record that is read is the one that is read after them with what they did. They gave so
+-- many fields, and the bytes of one more.
 abbrev pub ReadsOn : Config → State → Fields → (field : List ℕ) → (bytes : List ℕ) → State → Fields → (field : List ℕ) → Type 0
 ReadsOn config s fields field bytes s2 fields2 field2 =
     (after : List ℕ) → next_record config s fields field (bytes ++ after) ≡ next_record config s2 fields2 field2 after

@@ -1,4 +1,4 @@
--- What a reader of a text passes on its way, where the bytes that it has left are known.
+-- What a reader of a text passes on its way, if the bytes that it has left are known.
 use Rattle.std.specs.Prelude.{ℕ, ◌≡◌, ◌++◌, ◌+◌, ◌<◌, ◌∷◌, Bool, true, List, [], Option, Some, count_by, length}
 use Rattle.std.specs.Bool.{MatchBool}
 use Rattle.std.specs.Io.Iter.{u64_saturate}

@@ -20,8 +20,8 @@ pub record HasMoreThan (config : Config) (number : ℕ) (bytes : List ℕ) : Typ
   pub read : AreRecords config st.StartRecord bytes records
   pub more : number < length records
 
--- of these bytes, the record of this number, the first one's being 0, begins in this line, the first line being 1: they have it from that at
--- `place` on, and so many line feeds come before that
+-- The record of this number in these bytes begins in this line. The first record has the number 0, and the first line the number 1. The
+-- record begins at `place`, and the line feeds before that give the line.
 pub record BeginsAt (config : Config) (bytes : List ℕ) (number line : ℕ) : Type 0 where
   pub place : ℕ
   pub within : place < length bytes

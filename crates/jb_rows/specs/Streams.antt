@@ -1,5 +1,5 @@
--- The records of a stream of CSV or of lines, and records of CSV in one (RFC 4180, as the kit's `csv` reads and writes it; records may
--- differ in their number of fields).
+-- The records of a stream of CSV or of lines, and records of CSV in one (RFC 4180, as the kit's `csv` reads and writes it). Records may
+-- differ in their number of fields.
 use Rattle.std.specs.Prelude.{ℕ, ◌≡◌, ◌++◌, true, false, List, Option, Some, length, map}
 use Rattle.std.specs.Bool.{MatchBool}
 use Rattle.std.specs.Io.Iter.{u64_saturate}

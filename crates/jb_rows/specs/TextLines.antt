@@ -17,7 +17,7 @@ abbrev pub line_and : (line : List ℕ) (later : List (List ℕ)) → List (List
 line_and [] later = later
 line_and (byte ∷ line) later = (byte ∷ line) ∷ later
 
--- the lines of a text before which these bytes of its first line stand
+-- the lines of a text, with these bytes before it in its first line
 unfoldable pub lines_after : (begun text : List ℕ) → List (List ℕ)
 lines_after begun [] = line_and begun []
 lines_after begun (byte ∷ text) = if ends_line byte then line_and begun (lines_after [] text) else lines_after (begun ++ byte ∷ []) text

@@ -29,7 +29,7 @@ impl<R: Read> ByteSource<R> {
         }
     }
 
-    /// Reads more bytes if none is at hand; and whether one is. There is none only at the end of the text.
+    /// Reads more bytes if none is at hand, and says whether one is. Only at the end of the text is none at hand.
     pub(crate) fn fill(&mut self) -> Result<bool>
         ensures begun { OnOk result (self.new.is_begun ≡ true) }
         ensures keeps { OnOk result (Keeps (unread R.remaining self.old) (unread R.remaining self.new)) }
@@ -41,7 +41,7 @@ impl<R: Read> ByteSource<R> {
         self.read_more()
     }
 
-    /// The same where none is at hand, or nothing was read. It is apart, since it has a window of its own.
+    /// The same if none is at hand, or nothing was read. It is a function apart, since it has its own window.
     #[inline(never)]
     fn read_more(&mut self) -> Result<bool>
         ensures begun { OnOk result (self.new.is_begun ≡ true) }

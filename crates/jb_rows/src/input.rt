@@ -12,8 +12,8 @@ pub enum Input {
     Lines,
 }
 
-/// The law of lines: a text that is read as lines has a record for each of its lines, in order, and each has that line as its one field, if no
-/// byte of the text is 0. The function does nothing: its contract is the law.
+/// The law of lines, if no byte of the text is 0. A text that is read as lines has a record for each of its lines, in order, and each has that
+/// line as its one field. The function does nothing: its contract is the law.
 pub fn lines_are_records()
     ensures { LinesAreRecords }
 {}

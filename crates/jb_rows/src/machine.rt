@@ -10,7 +10,7 @@ ghost use Rattle.jb_rows.specs.Texts.{config_of};
 use crate::input::Input;
 use crate::rows_options::RowsOptions;
 
-/// Where a reader stands inside a record.
+/// Where a reader is inside a record.
 #[derive(Clone, Copy, Debug)]
 pub(crate) enum Place {
     /// Before the first byte of a field.

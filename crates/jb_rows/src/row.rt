@@ -46,7 +46,7 @@ impl<'a> Row<'a> {
         nth_field(self.bytes, index)
     }
 
-    /// Puts a copy of the fields into a record of `csv`, in place of its own.
+    /// Puts a copy of the fields into a record of `csv`, in place of those that it had.
     pub(crate) fn copy_to(&self, entry: &mut ByteRecord) -> Result<(), AllocError>
         ensures { OnOk result (fields_of entry.new ≡ self.now) }
     {
@@ -54,7 +54,7 @@ impl<'a> Row<'a> {
     }
 }
 
-/// Puts a copy of the fields in packed bytes into a record of `csv`, in place of its own.
+/// Puts a copy of the fields in packed bytes into a record of `csv`, in place of those that it had.
 fn copy_fields(bytes: &[u8], entry: &mut ByteRecord) -> Result<(), AllocError>
     ensures { OnOk result (fields_of entry.new ≡ fields_in bytes.now) }
 {

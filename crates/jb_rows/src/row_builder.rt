@@ -43,7 +43,7 @@ impl RowBuilder {
         self.bytes.clear();
     }
 
-    /// Puts a field behind the others. Without memory there is none left.
+    /// Puts a field after the others. Without memory no field is left.
     pub fn push(&mut self, field: &[u8]) -> Result<(), AllocError>
         ensures { OnOk result (self.new ≡ self.old ++ field.now ∷ []) }
     {

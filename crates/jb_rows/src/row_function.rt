@@ -31,7 +31,7 @@ pub trait RowFunction: Send + Sync {
         ensures { IfOk result (λ outcome. answered outcome built.new ≡ answer self.now row.now) };
 }
 
-/// Puts the result of a record, if it has one, behind the others.
+/// Puts the result of a record, if it has one, after the others.
 fn process_one<F: RowFunction>(
     function: &F,
     row: &Row,
@@ -47,7 +47,7 @@ fn process_one<F: RowFunction>(
     }
 }
 
-/// Puts the results of these records behind the others. The work is done in `built`.
+/// Puts the results of these records after the others. The work is done in `built`.
 pub fn process_all<F: RowFunction>(
     function: &F,
     rows: &Rows,

@@ -1,4 +1,4 @@
-//! Records of fields, one behind the other.
+//! Records of fields, one after the other.
 
 ghost use Rattle.std.specs.Prelude.{◌≡◌, ◌<◌, ◌++◌, ◌∷◌, [], length, map, slice_index_or, MatchOption, OnErr, OnOk};
 ghost use Rattle.jb_rows.specs.Even.{AreEven, IsUnevenAt};

@@ -179,7 +179,7 @@ impl<R: Read> RowsReader<R> {
     }
 
     /// The next records, at most so many, in place of those in `rows`; and whether there may be more. If one is too long, `rows` has
-    /// those before it. At the end there is none, however often it is asked.
+    /// those before it. At the end each further call gives no record.
     pub fn next_rows(&mut self, rows: &mut Rows, most: usize) -> Result<bool, RowsError>
         ensures given { OnOk result ((options : RowsOptions) (text : List ℕ) (before : List Fields) → HasGivenRows options R.remaining self.old text before
             → HasGivenRows options R.remaining self.new text (before ++ rows.new)) }

@@ -34,7 +34,7 @@ fn writer_to<W: Write + Drop>(delimiter: u8, to: W) -> Writer<W>
         .from_writer(to)
 }
 
-/// Lets `entry` grow to the largest of these records, so that want of memory comes before the first of them is written.
+/// Lets `entry` grow to the largest of these records, so that an out-of-memory error comes before the first of them is written.
 fn grow_for(entry: &mut ByteRecord, records: &PackedList) -> Result<(), RowsError> {
     for index in 0..records.len() {
         Row::of(records.at(index)).copy_to(entry)?;
@@ -68,7 +68,7 @@ impl<W: Write + Drop> RowsWriter<W> {
         }
     }
 
-    /// Writes the records, each a line, one behind the other.
+    /// Writes the records, each a line, one after the other.
     pub fn write_rows(&mut self, rows: &Rows) -> Result<(), RowsError>
         ensures { OnOk result ((delimiter : ℕ) → IsBetweenRows delimiter self.old → IsBetweenRows delimiter self.new
             × Appends (rows_written W.contents self.old) (rows_written W.contents self.new) (csv_rows delimiter rows.now)) }
@@ -76,7 +76,7 @@ impl<W: Write + Drop> RowsWriter<W> {
         self.write_packed(rows.as_list())
     }
 
-    /// Writes each of these strings as the record whose fields it has, packed. Want of memory is told before any of them is written.
+    /// Writes each of these strings as the record whose fields it has, packed. Out of memory is reported before any of them is written.
     pub fn write_packed(&mut self, records: &PackedList) -> Result<(), RowsError>
         ensures { OnOk result ((delimiter : ℕ) → IsBetweenRows delimiter self.old → IsBetweenRows delimiter self.new
             × Appends (rows_written W.contents self.old) (rows_written W.contents self.new) (csv_rows delimiter (map fields_in records.now))) }
@@ -89,7 +89,7 @@ impl<W: Write + Drop> RowsWriter<W> {
         Ok(())
     }
 
-    /// The stream, behind all that was written.
+    /// The stream, after all that was written.
     pub fn finish(self) -> Result<W, RowsError>
         ensures { IfOk result (λ to. Keeps (rows_written W.contents self) (W.contents to)) }
     {

@@ -17,7 +17,7 @@ pub(crate) struct Taken {
     pub(crate) count: usize,
     /// How many line feeds they have: one or none.
     pub(crate) lines: u64,
-    /// Where the reader stands after them.
+    /// Where the reader is after them.
     pub(crate) place: Place,
     /// Whether they end the record.
     pub(crate) is_whole: bool,
@@ -30,7 +30,7 @@ pub(crate) fn line_feeds(byte: u8) -> u64
     if byte == b'\n' { 1 } else { 0 }
 }
 
-/// Puts the field behind the others of its record.
+/// Puts the field after the others of its record.
 pub(crate) fn end_field(row: &mut RowBuilder, field: &mut Vec<u8>) -> Result<(), AllocError>
     ensures row { OnOk result (row.new ≡ row.old ++ field.old.items ∷ []) }
     ensures field { OnOk result (field.new.items ≡ []) }

@@ -95,7 +95,7 @@ impl Window {
         &self.buffer[self.at..self.filled]
     }
 
-    /// Whether there is none.
+    /// Whether there are no bytes.
     pub(crate) fn is_empty(&self) -> bool
         ensures { result ≡ (length self.now == 0) }
     {
@@ -110,7 +110,7 @@ impl Window {
         self.at += count;
     }
 
-    /// Reads bytes of the stream in place of these. There is none only at its end.
+    /// Reads bytes of the stream in place of these. Only at its end are there none.
     pub(crate) fn read<R: Read>(&mut self, stream: &mut R) -> Result<()>
         ensures read { OnOk result (Consumes (R.remaining stream.old) (R.remaining stream.new) self.new) }
         ensures end { OnOk result (self.new ≡ [] → IsAtEnd (R.remaining stream.new)) }

@@ -67,7 +67,7 @@ fn are_lines(
     }
 }
 
-/// The line of each record is told, whatever the size of a slice: line feeds between quotes count, and a carriage return alone doesn't.
+/// The line of each record is known, whatever the size of a slice: line feeds between quotes count, and a carriage return alone doesn't.
 #[test]
 fn records_begin_in_their_lines(rt: HostRuntime) {
     let alloc = rt.alloc();

@@ -10,8 +10,8 @@ use jb_rows::{
 };
 use std::alloc::{AllocError, Global};
 
-/// Texts, and what is written for each where the result of a record is its first field alone: without a header row, with one that is
-/// skipped, and with one that is copied. Python's `csv` gives these records and lines.
+/// Texts, and what is written for each: without a header row, with one that is skipped, and with one that is copied. The result of a
+/// record is its first field alone. Python's `csv` gives these records and lines.
 const TEXTS: [(&str, &str, &str, &str); 8] = [
     ("", "", "", ""),
     ("\n", "", "", ""),
@@ -81,7 +81,7 @@ fn writes(alloc: Global, header: Header, text: &str, most: usize, lines: &str) -
     }
 }
 
-/// The same. Where a request for memory is refused, it is at the second call.
+/// The same. If a request for memory is refused, it is at the second call.
 fn writes_at_last(alloc: Global, header: Header, text: &str, most: usize, lines: &str) -> bool {
     writes(alloc, header, text, most, lines) || writes(alloc, header, text, most, lines)
 }

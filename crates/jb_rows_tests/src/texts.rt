@@ -36,7 +36,7 @@ const TEXTS: [(&str, &str, &str); 16] = [
     (" a , \"b\" \n", " a ; \"b\" |", " a ,\" \"\"b\"\" \"\n"),
 ];
 
-/// Texts that are read as lines, and the same of them. A record has one field; where it has two, a byte 0 was between them.
+/// Texts that are read as lines, and the same of them. A record has one field. If it has two, a byte 0 was between them.
 const LINES: [(&str, &str, &str); 10] = [
     ("", "", ""),
     ("\n\r\n\n", "", ""),
@@ -109,7 +109,7 @@ fn read_and_write(
     Err(RowsError::Memory)
 }
 
-/// Whether a text has these records and these lines. Where a request for memory is refused, it is at the second call.
+/// Whether a text has these records and these lines. If a request for memory is refused, it is at the second call.
 fn gives(
     alloc: Global,
     options: &RowsOptions,

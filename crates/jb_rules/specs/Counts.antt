@@ -31,7 +31,7 @@ plus_counts a b = record {
 abbrev pub rolled_counts : Counts → Counts
 rolled_counts c = record c { rollback = c.rollback + 1 }
 
--- each sum is a number of the program
+-- each sum fits in 64 bits
 pub record SumsFit (a b : Counts) : Type 0 where
   pub read : a.read + b.read < 2 ^ 64
   pub write : a.write + b.write < 2 ^ 64
@@ -42,9 +42,9 @@ pub record SumsFit (a b : Counts) : Type 0 where
   pub filter : a.filter + b.filter < 2 ^ 64
   pub write_skip : a.write_skip + b.write_skip < 2 ^ 64
 
--- What a committed chunk of so many records adds to the counts: each record is read or its read skipped; and either
--- each item read has its process call skipped, is filtered or is written, or the write call was skipped with all its
--- results, of which there were some.
+-- What a committed chunk of so many records adds to the counts. Each record is read or its read skipped. Either each item
+-- read has its process call skipped, is filtered or is written; or the write call is skipped with all its results, at
+-- least one.
 pub record IsDelta (records : ℕ) (d : Counts) : Type 0 where
   pub passed : d.read + d.read_skip ≡ records
   pub commit : d.commit ≡ 1
@@ -53,7 +53,7 @@ pub record IsDelta (records : ℕ) (d : Counts) : Type 0 where
       (d.write_skip ≡ 0) × (d.process_skip + d.filter + d.write ≡ d.read)
       ⊎ (d.write_skip ≡ 1) × (d.write ≡ 0) × (d.process_skip + d.filter < d.read)
 
--- the test of the same
+-- the same as a test
 abbrev pub is_delta : (records : ℕ) → Counts → Bool
 is_delta records d =
     d.read + d.read_skip == records

@@ -9,14 +9,14 @@ use Rattle.jb_rules.specs.declared.choice.Choice.TheVariants.{Skip, Retry, Again
 abbrev pub has_class : (classes : ℕ) → ClassId → Bool
 has_class classes class = (classes / 2 ^ class.number) % 2 == 1
 
--- so many are below the limit; no limit is never reached
+-- so many are below the limit, or there is no limit
 abbrev pub is_below : Option ℕ → ℕ → Bool
 is_below None used = true
 is_below (Some limit) used = nat_lt used limit
 
--- A first attempt retries before it skips, a repeated one skips before it retries; what is neither fails (Jakarta Batch
--- 2.1, "Retry and Skip the Same Exception"). A retry rolls the chunk back, but for a class that is to roll nothing back:
--- then the call that failed is repeated in place (Jakarta Batch 2.1, "Preventing Rollback During Retry").
+-- A first attempt retries before it skips, a repeated one skips before it retries. What can do neither fails (Jakarta
+-- Batch 2.1, "Retry and Skip the Same Exception"). A retry rolls the chunk back, except for a class that is to roll
+-- nothing back: then the failed call is repeated in place (Jakarta Batch 2.1, "Preventing Rollback During Retry").
 abbrev pub choice_of : RulesRecord → ClassId → (retrying : Bool) → (skips retries : ℕ) → Choice
 choice_of rules class retrying skips retries =
     let can_skip = has_class rules.skippable class && is_below rules.skip_limit skips in

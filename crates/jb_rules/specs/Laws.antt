@@ -1,4 +1,4 @@
--- What holds of each step of a row's life, of its numbers, and of the tests of a row and of a chunk's counts.
+-- What holds of each step of a row, of its numbers, and of the tests of a row and of a chunk's counts.
 use Rattle.std.specs.Prelude.{ℕ, ◌≡◌, ◌+◌, ◌-◌, ◌<◌, ◌≤◌, ◌↔◌, true, List, length, take}
 use Rattle.jb_base.specs.declared.range.Range.{Range}
 use Rattle.jb_base.specs.Limits.{max_records, max_rollbacks, max_in_place}
@@ -33,7 +33,7 @@ UnfinishedRowsGoOn = (row : Row) → IsSoundRow row → (row.state ≡ Finished 
 abbrev pub RowsAreTested : Type 0
 RowsAreTested = (row : Row) → (is_sound row ≡ true) ↔ IsSoundRow row
 
--- a row is made again of its numbers and its state, and it has the numbers that it was made of
+-- a row is rebuilt from its numbers and its state, and a row made of numbers has these numbers
 pub record NumbersMakeRows : Type 0 where
   pub row : (r : Row) → row_of_numbers (numbers_of r) r.state ≡ r
   pub numbers : (ns : List ℕ) (state : RowState) → length ns ≤ 15 → take (length ns) (numbers_of (row_of_numbers ns state)) ≡ ns

@@ -42,7 +42,7 @@ state_name (Running lane) = codes "running"
 state_name Finished = codes "done"
 state_name Failed = codes "failed"
 
--- the state of this name; that of a partition which runs has none, since the name doesn't say on which lane
+-- the state of this name; a running partition's name gives no state, since it doesn't say on which lane
 abbrev pub state_named : List ℕ → Option RowState
 state_named name =
     if bytes_eq name (state_name Waiting) then Some Waiting

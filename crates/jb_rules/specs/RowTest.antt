@@ -8,7 +8,7 @@ abbrev pub is_placed : Row → Bool
 is_placed r =
     nat_le r.lo r.at && nat_le r.at r.hi && nat_le r.lo r.redo && nat_le r.redo r.hi && nat_le r.hi max_records
 
--- the items that were read and settled, but for those that a skipped write call dropped
+-- the items that were read and settled, except those that a skipped write call dropped
 abbrev pub settled : Row → ℕ
 settled r = r.counts.write + r.counts.process_skip + r.counts.filter
 
@@ -26,7 +26,7 @@ is_counted r =
     && nat_le r.counts.rollback max_rollbacks
     && nat_le r.in_place max_in_place
 
--- Finished exactly where no record is left
+-- Finished exactly if no record is left
 abbrev pub is_finished_at_end : Row → Bool
 is_finished_at_end r = if is_finished r.state then r.at == r.hi else not (r.at == r.hi)
 

@@ -1,4 +1,4 @@
--- The life of a row: how a partition begins, and what each step of it changes in its row.
+-- The steps of a row: how a partition begins, and what each step changes in its row.
 use Rattle.std.specs.Prelude.{ℕ, ◌+◌, ◌==◌, if◌then◌else◌, max}
 use Rattle.jb_base.specs.declared.range.Range.{Range}
 use Rattle.jb_plan.specs.Blocks.{next_block, left}
@@ -12,7 +12,7 @@ use Rattle.jb_rules.specs.Counts.{no_counts, plus_counts, rolled_counts}
 abbrev pub state_at : (at hi : ℕ) → RowState
 state_at at hi = if at == hi then Finished else Waiting
 
--- the row of a partition that has not begun
+-- the row of a partition that has not started
 abbrev pub fresh_row : Range → Row
 fresh_row r = record {
   lo = r.lo;
@@ -34,7 +34,7 @@ range_of row = record { lo = row.lo; hi = row.hi }
 abbrev pub row_block : (item_count : ℕ) → Row → Range
 row_block item_count row = next_block row.at row.redo row.hi item_count
 
--- how many chunks a row has left: those of a waiting partition alone
+-- how many chunks a row has left; 0 unless the partition waits
 abbrev pub remaining_of : ℕ → Row → RowState → ℕ
 remaining_of item_count row Waiting = left row.at row.redo row.hi item_count
 remaining_of item_count row _ = 0
@@ -68,7 +68,7 @@ rolled_row row end = record row {
 abbrev pub failed_row : Row → Row
 failed_row row = record row { counts = rolled_counts row.counts; state = Failed }
 
--- the row that waits again, after a chunk was given up of which nothing was done
+-- the row that waits again, after its chunk was given up and nothing of it was done
 abbrev pub dropped_row : Row → Row
 dropped_row row = record row { state = Waiting }
 

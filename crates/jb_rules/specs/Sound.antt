@@ -1,10 +1,10 @@
--- The rules that the row of a partition keeps (this project's own choice, but for the meaning of the counts).
+-- The rules that the row of a partition keeps (this project's own choice, except the meaning of the counts).
 use Rattle.std.specs.Prelude.{◌≡◌, ◌+◌, ◌-◌, ◌≤◌, ◌<◌, ◌↔◌}
 use Rattle.jb_base.specs.Limits.{max_records, max_rollbacks, max_in_place}
 use Rattle.jb_rules.specs.declared.row.Row.{Row}
 use Rattle.jb_rules.specs.declared.row.RowState.TheVariants.{Finished}
 
--- the next record and the redo mark stand in the range
+-- the next record and the redo mark are in the range, or at its end
 pub record IsPlaced (r : Row) : Type 0 where
   pub at_from : r.lo ≤ r.at
   pub at_to : r.at ≤ r.hi
@@ -12,9 +12,9 @@ pub record IsPlaced (r : Row) : Type 0 where
   pub redo_to : r.redo ≤ r.hi
   pub records : r.hi ≤ max_records
 
--- The counts account for the records up to the checkpoint: each was read or its read skipped; of the items read, each had
--- its process call skipped, was filtered, was written, or was dropped by a skipped write call; each commit passed a
--- record. Each retry repeated a call in place, or rolled a chunk back.
+-- The counts account for the records up to the checkpoint: each was read or its read skipped. Each item read had its
+-- process call skipped, was filtered, was written, or was dropped by a skipped write call. Each commit passed a record.
+-- Each retry repeated a call in place, or rolled a chunk back.
 pub record IsCounted (r : Row) : Type 0 where
   pub passed : r.counts.read + r.counts.read_skip ≡ r.at - r.lo
   pub written : r.counts.write ≡ r.written

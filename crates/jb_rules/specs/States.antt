@@ -1,4 +1,4 @@
--- How a partition stands, by the state of its row.
+-- The state of a partition, by its row.
 use Rattle.std.specs.Prelude.{Bool, true, false}
 use Rattle.jb_rules.specs.declared.row.RowState.{RowState}
 use Rattle.jb_rules.specs.declared.row.RowState.TheVariants.{Waiting, Running, Finished, Failed}
@@ -19,7 +19,7 @@ abbrev pub is_failed : RowState → Bool
 is_failed Failed = true
 is_failed _ = false
 
--- no chunk of the partition is begun any more: it is finished, or it has failed
+-- no chunk of the partition starts any more: it is finished, or it has failed
 abbrev pub has_ended : RowState → Bool
 has_ended Finished = true
 has_ended Failed = true

@@ -33,12 +33,12 @@ fn is_below(limit: Option<u64>, used: u64) -> bool
     }
 }
 
-/// Settles a fault of this class, where `skips` faults were skipped and `retries` retries made before it.
+/// Settles a fault of this class, after `skips` skipped faults and `retries` retries.
 ///
-/// A fault that is both skippable and retryable is retried first; where the record is done again after a rollback, it
-/// is skipped first (Jakarta Batch 2.1, "Retry and Skip the Same Exception"). A fault over both limits, or of a class in
-/// neither set, fails the partition. A retry for a class that is to roll nothing back repeats the call in place (Jakarta
-/// Batch 2.1, "Preventing Rollback During Retry"). The limits hold for each partition by itself.
+/// A fault that is both skippable and retryable is retried first. If the record is done again after a rollback, it is
+/// skipped first (Jakarta Batch 2.1, "Retry and Skip the Same Exception"). If the class and the limits allow neither, the
+/// partition fails. A retry for a class that is to roll nothing back repeats the call in place (Jakarta Batch 2.1,
+/// "Preventing Rollback During Retry"). The limits hold for each partition by itself.
 pub fn decide(rules: &Rules, class: ClassId, retrying: bool, skips: u64, retries: u64) -> Choice
     ensures { result ≡ choice_of rules.now class retrying skips retries }
 {

@@ -4,7 +4,7 @@ ghost use Rattle.std.specs.Prelude.{◌≡◌, ◌↔◌, IsTrue};
 ghost use Rattle.jb_rules.specs.Counts.{plus_counts, SumsFit, IsDelta, is_delta};
 ghost use Rattle.jb_rules.specs.Laws.{DeltasAreTested};
 
-/// The metrics of a partition (Jakarta Batch 2.1, "Metric"). They are kept over restarts.
+/// The metrics of a partition (Jakarta Batch 2.1, "Metric"). Restarts keep them.
 #[derive(Clone, Copy, Debug, PartialEq, Eq)]
 pub struct Counts {
     /// READ_COUNT: items that were read.
@@ -26,7 +26,7 @@ pub struct Counts {
 }
 
 impl Counts {
-    /// No count at all.
+    /// All counts are 0.
     pub const ZERO: Counts = Counts {
         read: 0,
         write: 0,
@@ -71,7 +71,7 @@ impl Counts {
     }
 }
 
-/// The law of `Counts::is_delta`: its definition as a test says what the definition as a fact does.
+/// The law of `Counts::is_delta`: its definition as a test agrees with its definition as a fact.
 pub fn deltas_are_tested()
     ensures { DeltasAreTested }
 {}

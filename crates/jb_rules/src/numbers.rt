@@ -108,7 +108,7 @@ impl RowState {
     }
 }
 
-/// The law of `Row::numbers` and `Row::of_numbers`: a row is made again of its numbers, and has the numbers of which it was made.
+/// The law of `Row::numbers` and `Row::of_numbers`: a row is rebuilt from its numbers, and a row made of numbers has these.
 pub fn numbers_make_rows()
     ensures { NumbersMakeRows }
 {}

@@ -1,4 +1,4 @@
-//! How a partition stands, and the rules that each row keeps.
+//! The state of a partition, and the rules that each row keeps.
 
 ghost use Rattle.std.specs.Prelude.{◌≡◌, ◌↔◌, IsTrue};
 ghost use Rattle.jb_rules.specs.Rows.{fresh_row, range_of};
@@ -10,7 +10,7 @@ ghost use Rattle.jb_rules.specs.Sound.{IsCounted, IsPlaced, IsSoundRow};
 use crate::counts::Counts;
 use jb_base::{MAX_IN_PLACE, MAX_RECORDS, MAX_ROLLBACKS, Range};
 
-/// Where a partition stands.
+/// The state of a partition.
 #[derive(Clone, Copy, Debug, PartialEq, Eq)]
 pub enum RowState {
     /// Some chunk is left, and none is being done.
@@ -52,7 +52,7 @@ impl RowState {
         matches!(*self, RowState::Failed)
     }
 
-    /// Whether no chunk of the partition is begun any more: it is finished, or it has failed.
+    /// Whether no chunk of the partition starts any more: it is finished, or it has failed.
     pub fn has_ended(&self) -> bool
         ensures { result ≡ has_ended self.now }
     {
@@ -79,12 +79,12 @@ pub struct Row {
     pub counts: Counts,
     /// How many calls were repeated in place.
     pub in_place: u64,
-    /// Where the partition stands.
+    /// The state of the partition.
     pub state: RowState,
 }
 
 impl Row {
-    /// The row of a partition that has not begun. An empty range is finished from the start.
+    /// The row of a partition that has not started. An empty range is finished from the start.
     pub fn fresh(range: Range) -> Row
         ensures { result ≡ fresh_row range }
     {
@@ -164,7 +164,7 @@ impl Row {
     }
 }
 
-/// The law of `Row::sound`: the row rules as a test say what they do as a fact.
+/// The law of `Row::sound`: the row rules as a test agree with the row rules as a fact.
 pub fn rows_are_tested()
     ensures { RowsAreTested }
 {}

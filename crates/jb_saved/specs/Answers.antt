@@ -36,7 +36,7 @@ abbrev pub saved_form_of : Option Data → Result SavedRows SavedPlace
 saved_form_of None = Err NotJson
 saved_form_of (Some d) = saved_form_at d
 
--- A text stands for saved rows, or it has a first fault: of its form, else of its rows.
+-- A text holds saved rows, or it has a first fault: of its form, else of its rows.
 abbrev pub IsSavedAnswer : Option Data → Result SavedRows SavedPlace → Type 0
 IsSavedAnswer tree (Ok s) = (saved_form_of tree ≡ Ok s) × AllFit s.rows
 IsSavedAnswer tree (Err (Rows i)) = (s : SavedRows) × (saved_form_of tree ≡ Ok s) × IsFirstUnfit s.rows i
@@ -48,7 +48,7 @@ IsSavedAnswer tree (Err place) = saved_form_of tree ≡ Err place
 abbrev pub first_running : List Row → Option ℕ
 first_running rows = position (λ (r : Row). is_running r.state) rows
 
--- rows aren't saved where one is running: the first is named; memory runs out only where none is
+-- rows aren't saved while one is running: the first is named; memory runs out only if none is
 abbrev pub RefusesRunning : SavedError → Option ℕ → Type 0
 RefusesRunning (Refused place) (Some i) = place ≡ Rows i
 RefusesRunning (Refused place) None = ⊥

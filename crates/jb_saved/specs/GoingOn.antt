@@ -1,4 +1,4 @@
--- Saved rows as a step goes on from them.
+-- Saved rows as a step resumes from them.
 use Rattle.std.specs.Prelude.{◌≡◌, ◌≢◌, ℕ, ◌++◌, Bool, not, nat_lt, if◌then◌else◌, List, [], ◌∷◌, map, slice_get, bytes_eq, Some}
 use Rattle.std.specs.List.{list_any}
 use Rattle.jb_rules.specs.declared.row.Row.{Row}
@@ -11,12 +11,12 @@ use Rattle.jb_saved.specs.declared.place.SavedPlace.{SavedPlace}
 use Rattle.jb_saved.specs.declared.place.SavedPlace.TheVariants.{Step, Records}
 use Rattle.jb_saved.specs.SavedRows.{SavedRows}
 
--- A failed partition waits again (Jakarta Batch 2.1, "Restart Processing"), at its checkpoint and with its counts; another
--- stands as it was saved.
+-- A failed partition waits again (Jakarta Batch 2.1, "Restart Processing"), at its checkpoint and with its counts. Any other
+-- is as it was saved.
 abbrev pub restarted : Row → Row
 restarted row = if is_failed row.state then dropped_row row else row
 
--- the rows with which the step goes on
+-- the rows with which the step resumes
 abbrev pub rows_restarted : SavedRows → List Row
 rows_restarted s = map restarted s.rows
 
@@ -28,7 +28,7 @@ AreUnfailed rows = (i : ℕ) (r : Row) → slice_get rows i ≡ Some r → r.sta
 abbrev pub ends_past : (records : ℕ) → List Row → Bool
 ends_past records rows = list_any (λ (r : Row). nat_lt records r.hi) rows
 
--- this fault, where the condition holds
+-- this fault, if the condition holds
 abbrev pub fault_if : Bool → SavedPlace → List SavedPlace
 fault_if holds fault = if holds then fault ∷ [] else []
 
@@ -36,11 +36,11 @@ fault_if holds fault = if holds then fault ∷ [] else []
 abbrev pub other_step : (step : List ℕ) → SavedRows → List SavedPlace
 other_step step s = fault_if (not (bytes_eq s.step step)) Step
 
--- all faults of saved rows from which a step of this id and so many records goes on, in the order in which they count
+-- all faults of saved rows from which a step of this id and so many records resumes, in the order in which they count
 abbrev pub step_faults : (step : List ℕ) → (records : ℕ) → SavedRows → List SavedPlace
 step_faults step records s = other_step step s ++ fault_if (ends_past records s.rows) Records
 
--- the first of the faults; memory runs out only where there is none
+-- the first of the faults; memory runs out only if there are no faults
 abbrev pub Refuses : SavedError → List SavedPlace → Type 0
 Refuses (Refused place) faults = slice_get faults 0 ≡ Some place
 Refuses Memory faults = faults ≡ []

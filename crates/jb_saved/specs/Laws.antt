@@ -23,8 +23,8 @@ OneAnswer = (tree : Option Data) (one other : Result SavedRows SavedPlace) → I
 abbrev pub TextIsRead : Type 0
 TextIsRead = (s : SavedRows) → IsSaved s → read (compact_text (saved_tree s)) ≡ Some (saved_tree s)
 
--- a saved object of a known version that can hold these rows: with the keys of one and no other, in any order, which hold
--- what the tree of this version holds
+-- A saved object of a known version that can hold these rows. It has the keys of one and no other, in any order, and they hold
+-- what the tree of this version holds.
 pub record IsSavedTree (n : ℕ) (d : Data) (s : SavedRows) : Type 0 where
   pub known : is_known n ≡ true
   pub holds : CanHold n s.rows

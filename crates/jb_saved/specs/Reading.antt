@@ -1,4 +1,4 @@
--- The saved rows that a text stands for, or its first fault: of its form, else of its rows.
+-- The saved rows that a text holds, or its first fault: of its form, else of its rows.
 use Rattle.std.specs.Prelude.{ℕ, ◌||◌, Bool, not, List, position, take, Option, Some, None, Result, Ok, Err}
 use Rattle.std.specs.List.{list_any, enumerate_from}
 use Rattle.serde_json.specs.Data.{Data}
@@ -14,7 +14,7 @@ use Rattle.jb_saved.specs.declared.place.SavedPlace.TheVariants.{NotJson, Rows}
 use Rattle.jb_saved.specs.SavedRows.{SavedRows}
 use Rattle.jb_saved.specs.SavedForm.{saved_form_at}
 
--- some record stands in the row's range and in an earlier one's
+-- some record is in the row's range and in an earlier one's
 abbrev pub overlaps_some : (earlier : List Row) → Row → Bool
 overlaps_some earlier r = list_any (λ (s : Row). do_overlap (range_of s) (range_of r)) earlier
 
@@ -35,7 +35,7 @@ abbrev pub checked_rows : Result SavedRows SavedPlace → Result SavedRows Saved
 checked_rows (Ok s) = checked_by (first_unfit s.rows) s
 checked_rows (Err place) = Err place
 
--- the saved rows that a tree stands for, or its first fault
+-- the saved rows that a tree holds, or its first fault
 unfoldable pub saved_at : Data → Result SavedRows SavedPlace
 saved_at d = checked_rows (saved_form_at d)
 

@@ -1,5 +1,5 @@
--- The saved rows that a JSON tree stands for by its form: the keys of the object as a table, and a row as its parts, with
--- nothing at a value of another kind (own choice). The row rules aren't looked at here.
+-- The saved rows that a JSON tree holds by its form: the keys of the object as a table, and a row as its parts (own choice).
+-- A value of another kind holds nothing. The row rules aren't checked here.
 use Rattle.std.specs.Prelude.{ℕ, zero, suc, ◌&&◌, nat_le, List, [], ◌∷◌, ◌++◌, length, codes, Option, Some, None, option_and_then, Result, Ok, Err, if◌then◌else◌, bytes_eq}
 use Rattle.std.specs.List.{list_all, list_any}
 use Rattle.serde_json.specs.Data.{Data, Items, no_items, item}
@@ -15,7 +15,7 @@ use Rattle.jb_saved.specs.declared.place.SavedPlace.TheVariants.{Shape, Version}
 use Rattle.jb_saved.specs.SavedRows.{SavedRows}
 use Rattle.jb_saved.specs.SavedTree.{is_known, listed}
 
--- one value after another: where one is missing, all are
+-- one value after another: if one is missing, all are
 infixl 10 ◌>>=◌
 abbrev pub ◌>>=◌ : {A B : Type 0} → Option A → (A → Option B) → Option B
 None >>= f = None
@@ -29,7 +29,7 @@ row_parts zero (item d no_items) = option_and_then state_named (find.as_str d) >
 row_parts (suc n) (item d ds) = whole_number d >>= λ one. row_parts n ds >>= λ rest. Some (one ∷ rest.0, rest.1)
 row_parts n ds = None
 
--- the row that a tree stands for in a version; a number that the version doesn't list is 0
+-- the row that a tree holds in a version; a number that the version doesn't list is 0
 unfoldable pub row_of_tree : (version : ℕ) → Data → Option Row
 row_of_tree n d = find.as_array d >>= λ items. row_parts (listed n) items >>= λ parts. Some (row_of_numbers parts.0 parts.1)
 
@@ -73,12 +73,12 @@ abbrev pub saved_shaped : Option SavedRows → Result SavedRows SavedPlace
 saved_shaped None = Err Shape
 saved_shaped (Some s) = Ok s
 
--- A version that is a number is looked at before the rest of the form, which goes by it.
+-- A version that is a number is checked before the rest of the form, which depends on it.
 abbrev pub form_by : Option ℕ → Data → Result SavedRows SavedPlace
 form_by None d = Err Shape
 form_by (Some n) d = if is_known n then saved_shaped (saved_of_tree n d) else Err Version
 
--- the saved rows that a tree stands for by its form, or its first fault of form: Version as soon as the key `version` is
--- found to hold the number of another version, else Shape
+-- the saved rows that a tree holds by its form, or its first fault of form: Version if the key `version` holds the number of
+-- another version, else Shape
 unfoldable pub saved_form_at : Data → Result SavedRows SavedPlace
 saved_form_at d = form_by (version_of d) d

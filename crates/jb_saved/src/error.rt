@@ -7,7 +7,7 @@ use crate::place::SavedPlace;
 use std::alloc::{AllocError, AllocFailed};
 use thiserror::Error;
 
-/// Why there are no saved rows, or none to go on from.
+/// Why there are no saved rows, or none to resume from.
 #[derive(Clone, Copy, Debug, PartialEq, Eq, Error)]
 pub enum SavedError {
     /// This of the saved rows is refused.

@@ -1,4 +1,4 @@
-//! The form of saved rows: what a JSON tree holds, or nothing where it is of another form.
+//! The form of saved rows: what a JSON tree holds, or nothing if it is of another form.
 
 ghost use Rattle.std.specs.Prelude.{◌≡◌, ◌≤◌, [], false, length, map, IfOk, IfSome, string_bytes, option_map, bytes_eq};
 ghost use Rattle.std.specs.List.{list_all, list_any};
@@ -49,7 +49,7 @@ fn numbers_in(members: &[Value]) -> Option<[u64; Row::NUMBERS]>
     Some(numbers)
 }
 
-/// The state that a name stands for.
+/// The state that a name means.
 fn state_in(name: &Value) -> Option<RowState>
     ensures form { result ≡ state_in (view name.now) }
     ensures still { IfSome result (λ state. is_running state ≡ false) }
@@ -57,7 +57,7 @@ fn state_in(name: &Value) -> Option<RowState>
     RowState::of_name(name.as_str()?)
 }
 
-/// The row of these numbers and the state behind them.
+/// The row of these numbers and the state after them.
 fn row_from(members: &[Value], name: &Value) -> Option<Row>
     requires { length members.now ≤ 15 }
     ensures form { result ≡ row_from (map view members.now) (view name.now) }
@@ -157,7 +157,7 @@ pub(crate) fn version_of(tree: &Value) -> Option<u64>
     tree.get("version")?.as_u64()
 }
 
-/// The id and the rows of an object of this version, whose row rules aren't looked at.
+/// The id and the rows of an object of this version. The row rules aren't checked.
 #[tactic(auto, unfolding(crate::specs::SavedForm::saved_of_tree))]
 pub(crate) fn saved_of(
     alloc: Global,

@@ -1,4 +1,4 @@
-//! Saved rows as a step goes on from them.
+//! Saved rows as a step resumes from them.
 
 ghost use Rattle.std.specs.Prelude.{◌≡◌, [], map, slice_get, OnOk, IfOk, IfErr};
 ghost use Rattle.jb_saved.specs.GoingOn.{restarted, ends_past, step_faults, rows_restarted, AreUnfailed, Refuses};
@@ -10,7 +10,7 @@ use crate::saved::SavedRows;
 use jb_rules::{Row, RowState, rows_stay_sound, unfinished_rows_go_on};
 use std::alloc::{AllocError, Global};
 
-/// A failed partition waits again; another stands as it was saved.
+/// A failed partition waits again. Any other is as it was saved.
 fn restarted(row: &Row) -> Row
     ensures { result ≡ restarted row.now }
 {
@@ -50,12 +50,12 @@ fn refusal(step_id: &str, records: u64, saved: &SavedRows) -> Option<SavedPlace>
     }
 }
 
-/// The rows with which a step of this id and so many records goes on from saved rows: the failed ones wait again (Jakarta
-/// Batch 2.1, "Restart Processing"), the others are as they were.
+/// The rows with which a step of this id and so many records resumes from saved rows. The failed ones wait again (Jakarta
+/// Batch 2.1, "Restart Processing"). The others are as they were.
 ///
 /// # Errors
-/// `Refused` with the first of: `Step`, where the rows are another step's; `Records`, where one ends past the last record.
-/// And `Memory`, only where none of these holds.
+/// `Refused` with the first of: `Step`, if the rows are another step's; `Records`, if one ends past the last record.
+/// `Memory`, only if neither holds.
 pub fn rows_to_go_on(
     alloc: Global,
     step_id: &str,

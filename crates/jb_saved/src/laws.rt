@@ -5,8 +5,8 @@ ghost use Rattle.jb_saved.specs.Worked.{WorkedSaved};
 
 use jb_rules::{numbers_make_rows, rows_are_tested};
 
-/// The definition of reading gives, of each text, the one answer that the row rules allow; it reads the trees of saved rows in
-/// both versions, and the tree of their text, as these rows, and no other tree as them.
+/// The definition of reading gives, for each text, the one answer that the row rules allow. It reads as saved rows the trees of
+/// these rows in both versions, and the tree of their text. It reads no other tree as them.
 pub fn answers_are_computed()
     ensures answer { AnswerIsComputed }
     ensures one { OneAnswer }

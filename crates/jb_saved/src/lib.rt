@@ -1,8 +1,8 @@
-//! The rows of a stopped step: their text, reading it, and the rows with which a restart goes on.
+//! The rows of a stopped step: their text, reading it, and the rows with which a restart resumes.
 //!
 //! - `saved`: saved rows, of a snapshot or of a text. `text`: writing them; their text reads back as them.
 //! - `form`: what a JSON tree holds as saved rows, and `rows`: the first of its rows that can't be.
-//! - `going_on`: saved rows as a step goes on from them.
+//! - `going_on`: saved rows as a step resumes from them.
 //! - `error`, `place`: why there are no saved rows, and what of them is refused.
 //! - `laws`: what the definitions say of one another, and what they give for worked rows.
 #![tactic(auto)]

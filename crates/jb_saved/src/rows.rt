@@ -7,7 +7,7 @@ ghost use Rattle.jb_saved.specs.Reading.{overlaps_some, is_unfit, first_unfit};
 use jb_plan::do_overlap;
 use jb_rules::Row;
 
-/// Whether some record stands in the row's range and in an earlier one's.
+/// Whether some record is in the row's range and in an earlier one's.
 fn overlaps_some(earlier: &[Row], row: &Row) -> bool
     ensures { result ≡ overlaps_some earlier.now row.now }
 {

@@ -60,11 +60,12 @@ impl SavedRows {
         self.step.as_str()
     }
 
-    /// The saved rows that a JSON tree stands for.
+    /// The saved rows that a JSON tree holds.
     ///
     /// # Errors
-    /// `Refused` with the first of: `Version`, where the tree is an object whose version is another number than 1 and 2;
-    /// where it is of another form; `Rows`, the first row that breaks a row rule or overlaps an earlier one. And `Memory`.
+    /// `Refused` with the first of these. `Version`: the tree is an object whose version is a whole number other than 1 and 2.
+    /// `Shape`: it is of another form. `Rows`: the first row that breaks a row rule or overlaps an earlier one.
+    /// And `Memory`.
     #[tactic(auto, unfolding(crate::specs::SavedForm::saved_form_at, crate::specs::Reading::saved_at))]
     pub fn of_value(alloc: Global, tree: &Value) -> Result<SavedRows, SavedError>
         ensures { GivesSaved result (saved_at (view tree.now)) }
@@ -99,10 +100,10 @@ impl SavedRows {
         Ok(SavedRows { step, rows })
     }
 
-    /// The saved rows that a text stands for.
+    /// The saved rows that a text holds.
     ///
     /// # Errors
-    /// `Refused` with `NotJson`, where the text has no JSON tree, else the first fault of its tree (`of_value`). And `Memory`.
+    /// `Refused` with `NotJson`, if the text has no JSON tree, else the first fault of its tree (`of_value`). And `Memory`.
     pub fn read(alloc: Global, bytes: &[u8]) -> Result<SavedRows, SavedError>
         ensures { GivesSaved result (answer_of (tree_of bytes.now)) }
     {

@@ -27,9 +27,9 @@ use Rattle.sqlite.specs.State.{State, mode_of, Executes}
 use Rattle.jb_slice_file.specs.declared.error.StoreError.{StoreError}
 use Rattle.jb_slice_file.specs.declared.error.StoreError.TheVariants.{Taken, TooLong, TooMany}
 use Rattle.jb_slice_file.specs.Errors.{refusal_named, IsCaused, IsStoreFault}
-use Rattle.jb_slice_file.specs.Form.{checkpoint, checkpoint_schema}
+use Rattle.jb_slice_file.specs.TableSchema.{checkpoint, checkpoint_schema}
 use Rattle.jb_slice_file.specs.Rows.{HasNumber, HoldsList, IsTooLong, stored}
-use Rattle.jb_slice_file.specs.Kept.{Kept}
+use Rattle.jb_slice_file.specs.CheckpointBytes.{CheckpointBytes}
 use Rattle.jb_slice_file.specs.Chain.{Linked}
 use Rattle.sqlite.specs.Schema.{Schema}
 use Rattle.sqlite.specs.Edit.{Edit, edit_of}
@@ -84,11 +84,11 @@ only_one : (row other : Row) → Has (other ∷ []) row → row ≡ other
 only_one row other (inl same) = same
 only_one row other (inr none) = absurd none
 
-taken_of : (b : Bool) → (not b && true) ≡ false → b ≡ true
-taken_of true h = refl
-taken_of false h = absurd (true≢false h)
+answered_calls_of : (b : Bool) → (not b && true) ≡ false → b ≡ true
+answered_calls_of true h = refl
+answered_calls_of false h = absurd (true≢false h)
 
-module _ (old new : State) (all : List Kept) (holds : HoldsList old.now all) (it : Linked) (wide : length it.link ≡ 32) (number : ℕ) (full : Type 0) where
+module _ (old new : State) (all : List CheckpointBytes) (holds : HoldsList old.now all) (it : Linked) (wide : length it.link ≡ 32) (number : ℕ) (full : Type 0) where
   abbrev Why : StoreError → Type 0
   Why = IsCaused old new (HasNumber all number) (IsTooLong it.it) full
 
@@ -134,7 +134,7 @@ module _ (old new : State) (all : List Kept) (holds : HoldsList old.now all) (it
   there : (rows : List Row) → IsRow rows → (why : Option Refusal) → Stopped why rows → why ≡ Some (Violates PrimaryKey) → HasNumber all number
   there rows news why writes is =
       let fresh = refused checkpoint_schema (mode_of old).keys old.now.trees (edit rows) refl (subst (λ w. Stopped w rows) is writes) in
-      taken_has (old.now.trees 0) all number it holds.rows (taken_of _ (subst (λ n. are_fresh (old.now.trees 0) n ≡ false) news fresh))
+      taken_has (old.now.trees 0) all number it holds.rows (answered_calls_of _ (subst (λ n. are_fresh (old.now.trees 0) n ≡ false) news fresh))
 
   too_big : NotWritten None → IsTooLong it.it
   too_big (inl h) = absurd h

@@ -6,7 +6,7 @@ use Rattle.sqlite.specs.declared.types.Value.{Value}
 use Rattle.sqlite.specs.declared.types.Value.TheVariants.{Int, Text as Words, Blob as Bytes}
 use Rattle.sqlite_value.specs.Order.{Row, column}
 use Rattle.jb_slice_file.specs.declared.numbered.Found.{Found}
-use Rattle.jb_slice_file.specs.Kept.{Kept}
+use Rattle.jb_slice_file.specs.CheckpointBytes.{CheckpointBytes}
 use Rattle.jb_slice_file.specs.Chain.{Linked, chained}
 use Rattle.jb_slice_file.specs.Numbered.{Numbered, numbered, numbered_from}
 use Rattle.jb_slice_file.specs.Rows.{columns_of, shown_from}
@@ -51,7 +51,7 @@ unnumbered number [] = refl
 unnumbered number (x ∷ all) = ap (λ (more : List Linked). x ∷ more) (unnumbered (suc number) all)
 
 -- two lists that are shown alike are one
-pub shown_once : (all others : List Kept) → shown_from 1 (chained all) ≡ shown_from 1 (chained others) → all ≡ others
+pub shown_once : (all others : List CheckpointBytes) → shown_from 1 (chained all) ≡ shown_from 1 (chained others) → all ≡ others
 shown_once all others h =
     let same = rows_once _ _ (rows_of_list 1 (chained all) ∙ h ∙ sym (rows_of_list 1 (chained others))) in
     chained_once all others (sym (unnumbered 1 (chained all)) ∙ ap (map (λ (n : Numbered). n.linked)) same ∙ unnumbered 1 (chained others))

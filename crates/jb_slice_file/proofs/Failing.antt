@@ -24,7 +24,7 @@ use Rattle.sqlite.specs.Compile.{table_defined_by}
 use Rattle.sqlite.specs.Effect.{Database, RefusesToRead, alter_error}
 use Rattle.sqlite.specs.Table.{Table}
 use Rattle.sqlite_disk.specs.Disk.{MoreFaults}
-use Rattle.jb_slice_file.specs.Form.{checkpoint, checkpoint_schema, no_schema}
+use Rattle.jb_slice_file.specs.TableSchema.{checkpoint, checkpoint_schema, no_schema}
 use Rattle.jb_slice_file.proofs.Texts.{create_text, query, select_text, create_is, select_is}
 use Rattle.sqlite_catalog.specs.declared.error.Refusal as alter
 use Rattle.sqlite_catalog.specs.declared.error.Refusal.TheVariants as refusal

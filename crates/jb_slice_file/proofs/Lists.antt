@@ -12,7 +12,7 @@ use Rattle.sqlite_trees.specs.Tree.{rowid, put_row, IsAscending}
 use Rattle.sqlite_rules.specs.Edit.{is_taken}
 use Rattle.sqlite_sql.specs.Query.{Output, output, output_cmp}
 use Rattle.jb_slice_file.specs.Rows.{HasNumber, stored, shown, stored_from, shown_from}
-use Rattle.jb_slice_file.specs.Kept.{Kept}
+use Rattle.jb_slice_file.specs.CheckpointBytes.{CheckpointBytes}
 use Rattle.jb_slice_file.specs.Chain.{Linked, chained}
 use Rattle.jb_slice_file.proofs.Chains.{as_many}
 use Rattle.jb_slice_file.proofs.Texts.{query}
@@ -73,7 +73,7 @@ within start number it (x ∷ more) h = elim (cases_Bool (is_eq (value_cmp (Int 
 ]
 
 -- a number that the table has is that of a checkpoint
-pub taken_has : (rows : List Row) (all : List Kept) (number : ℕ) (it : Linked) → IsPermutation (stored_from 1 (chained all)) rows → is_taken rows (stored number it) ≡ true → HasNumber all number
+pub taken_has : (rows : List Row) (all : List CheckpointBytes) (number : ℕ) (it : Linked) → IsPermutation (stored_from 1 (chained all)) rows → is_taken rows (stored number it) ≡ true → HasNumber all number
 taken_has rows all number it are taken =
     let w = within 1 number it (chained all) (list_any-IsPermutation (λ r. is_eq (value_cmp (rowid r) (Int (pos number)))) _ _ are ∙ taken) in
     let many = as_many all in

@@ -4,24 +4,24 @@ use Rattle.std.proofs.lemmas.List.{map-append, length-map}
 use Rattle.jb_slice_file.specs.declared.checkpoint.Checkpoint.{Checkpoint}
 use Rattle.jb_slice_file.specs.declared.numbered.Found.{Found}
 use Rattle.jb_slice_file.specs.declared.list_end.ListEnd.{ListEnd}
-use Rattle.jb_slice_file.specs.Kept.{Kept, kept}
+use Rattle.jb_slice_file.specs.CheckpointBytes.{CheckpointBytes, checkpoint_bytes}
 use Rattle.jb_slice_file.specs.Chain.{Linked, chained, chained_from, last_from, last_link, link_of, no_link}
 use Rattle.jb_slice_file.specs.ListEnd.{IsAfter, IsEndOf}
 use Rattle.jb_slice_file.specs.Numbered.{IsAlteredAt, Numbered, numbered, numbered_from}
 use Rattle.jb_slice_file.proofs.Chains.{as_many, chained_more, last_more, link_length}
 
 -- a list whose member behind these has another number is none
-place_of : (number : ℕ) (xs all : List Linked) (one : Numbered) (more : List Numbered) → numbered_from number xs ++ one ∷ more ≡ numbered_from number all → one.number ≡ pos (number + length xs)
-place_of number [] [] one more is = let none : ⊥ = cc in absurd none
-place_of number [] (it ∷ all) one more is =
+slice_state : (number : ℕ) (xs all : List Linked) (one : Numbered) (more : List Numbered) → numbered_from number xs ++ one ∷ more ≡ numbered_from number all → one.number ≡ pos (number + length xs)
+slice_state number [] [] one more is = let none : ⊥ = cc in absurd none
+slice_state number [] (it ∷ all) one more is =
     let same : one ≡ record { number = pos number; linked = it } = cc in
     let place : number ≡ number + 0 = omega arith in
     ap (λ (n : Numbered). n.number) same ∙ ap pos place
-place_of number (x ∷ xs) [] one more is = let none : ⊥ = cc in absurd none
-place_of number (x ∷ xs) (it ∷ all) one more is =
+slice_state number (x ∷ xs) [] one more is = let none : ⊥ = cc in absurd none
+slice_state number (x ∷ xs) (it ∷ all) one more is =
     let rest : numbered_from (suc number) xs ++ one ∷ more ≡ numbered_from (suc number) all = cc in
     let place : suc number + length xs ≡ number + length (x ∷ xs) = omega arith in
-    place_of (suc number) xs all one more rest ∙ ap pos place
+    slice_state (suc number) xs all one more rest ∙ ap pos place
 
 numbered_push : (number : ℕ) (all : List Linked) (one : Linked) (n : ℕ) → n ≡ number + length all → numbered_from number (all ++ one ∷ []) ≡ numbered_from number all ++ (record { number = pos n; linked = one }) ∷ []
 numbered_push number [] one n is = let same : number ≡ n = omega (arith, is) in ap (λ (m : ℕ). (record { number = pos m; linked = one }) ∷ []) same
@@ -34,41 +34,41 @@ tail_is : (x y : Numbered) (xs ys : List Numbered) → x ∷ xs ≡ y ∷ ys →
 tail_is x y xs ys e = cc
 
 -- one that was found with another link is of no chain
-has_link : (before : List ℕ) (number : ℕ) (front all : List Kept) (one : Linked) (later : List Numbered) (n : ℕ) → n ≡ number + length front
+has_link : (before : List ℕ) (number : ℕ) (front all : List CheckpointBytes) (one : Linked) (later : List Numbered) (n : ℕ) → n ≡ number + length front
     → numbered_from number (chained_from before number front ++ one ∷ []) ++ later ≡ numbered_from number (chained_from before number all) → one.link ≡ link_of (last_from before number front) n one.it
 has_link before number [] [] one later n at is = let none : ⊥ = cc in absurd none
 has_link before number [] (a ∷ all) one later n at is =
     let same = ap (λ (n : Numbered). n.linked) (head_is _ _ _ _ is) in
     let here : number ≡ n = omega (arith, at) in
-    ap (λ (o : Linked). o.link) same ∙ ap (λ (it : Kept). link_of before number it) (sym (ap (λ (o : Linked). o.it) same)) ∙ ap (λ (m : ℕ). link_of before m one.it) here
+    ap (λ (o : Linked). o.link) same ∙ ap (λ (it : CheckpointBytes). link_of before number it) (sym (ap (λ (o : Linked). o.it) same)) ∙ ap (λ (m : ℕ). link_of before m one.it) here
 has_link before number (f ∷ front) [] one later n at is = let none : ⊥ = cc in absurd none
 has_link before number (f ∷ front) (a ∷ all) one later n at is =
     let first : f ≡ a = ap (λ (n : Numbered). n.linked.it) (head_is _ _ _ _ is) in
     let rest = tail_is _ _ _ _ is in
     has_link (link_of before number f) (suc number) front all one later n (omega (arith, at))
-    (rest ∙ ap (λ (it : Kept). numbered_from (suc number) (chained_from (link_of before number it) (suc number) all)) (sym first))
+    (rest ∙ ap (λ (it : CheckpointBytes). numbered_from (suc number) (chained_from (link_of before number it) (suc number) all)) (sym first))
 
-pub never_altered : (number : ℕ) (found : List Numbered) (all : List Kept) → found ≡ numbered_from 1 (chained all) → IsAlteredAt number found → ⊥
+pub never_altered : (number : ℕ) (found : List Numbered) (all : List CheckpointBytes) → found ≡ numbered_from 1 (chained all) → IsAlteredAt number found → ⊥
 never_altered number found all is at = let n = at.number_is in at.other (has_link no_link 1 at.front all at.one at.later number (omega (arith, n)) (sym at.found_are ∙ is))
 
 -- ---- one that was found, between those before it and those to come
 
 module _ (all : List Checkpoint) (one : Found) where
-  abbrev before : List Kept
-  before = map kept all
+  abbrev before : List CheckpointBytes
+  before = map checkpoint_bytes all
 
   abbrev link : List ℕ
-  link = link_of (last_link before) (length before + 1) (kept one.checkpoint)
+  link = link_of (last_link before) (length before + 1) (checkpoint_bytes one.checkpoint)
 
   so_many : length (chained before) ≡ length all
-  so_many = as_many before ∙ length-map all kept
+  so_many = as_many before ∙ length-map all checkpoint_bytes
 
   -- where these are a list, it has the next number
   pub other_number : (list : List Linked) (rest from : List Found) (whole : List Numbered) → from ≡ one ∷ rest
       → whole ≡ numbered_from 1 (chained before) ++ map numbered from → whole ≡ numbered_from 1 list → one.number ≡ pos (1 + length all)
   other_number list rest from whole next so is =
       let found = sym (ap (λ l. numbered_from 1 (chained before) ++ map numbered l) next) ∙ sym so ∙ is in
-      place_of 1 (chained before) list (numbered one) (map numbered rest) found ∙ ap (λ n. pos (1 + n)) so_many
+      slice_state 1 (chained before) list (numbered one) (map numbered rest) found ∙ ap (λ n. pos (1 + n)) so_many
 
   -- where it has that, it is behind those before it
   pub placed : (rest from : List Found) (whole : List Numbered) → from ≡ one ∷ rest → one.number ≡ pos (1 + length all)
@@ -82,51 +82,51 @@ module _ (all : List Checkpoint) (one : Found) where
       ∙ ap (λ l. l ++ map numbered rest) (sym (numbered_push 1 (chained before) linked (1 + length all) (ap (λ n. 1 + n) (sym so_many))))
 
   same_number : 1 + length all ≡ length before + 1
-  same_number = let many = length-map all kept in omega (arith, many)
+  same_number = let many = length-map all checkpoint_bytes in omega (arith, many)
 
   pub push_next : (pushed : List Checkpoint) (rest from : List Found) (whole : List Numbered) → from ≡ one ∷ rest → pushed ≡ all ++ one.checkpoint ∷ [] → one.number ≡ pos (1 + length all)
-      → one.link.items ≡ link_of (last_link before) (1 + length all) (kept one.checkpoint)
-      → whole ≡ numbered_from 1 (chained before) ++ map numbered from → whole ≡ numbered_from 1 (chained (map kept pushed)) ++ map numbered rest
+      → one.link.items ≡ link_of (last_link before) (1 + length all) (checkpoint_bytes one.checkpoint)
+      → whole ≡ numbered_from 1 (chained before) ++ map numbered from → whole ≡ numbered_from 1 (chained (map checkpoint_bytes pushed)) ++ map numbered rest
   push_next pushed rest from whole next is number link so =
       let linked = (numbered one).linked in
-      let more = chained_more before linked (link ∙ ap (λ n. link_of (last_link before) n (kept one.checkpoint)) same_number) in
-      let kept_are : before ++ kept one.checkpoint ∷ [] ≡ map kept pushed = sym (ap (map kept) is ∙ map-append kept all (one.checkpoint ∷ [])) in
+      let more = chained_more before linked (link ∙ ap (λ n. link_of (last_link before) n (checkpoint_bytes one.checkpoint)) same_number) in
+      let kept_are : before ++ checkpoint_bytes one.checkpoint ∷ [] ≡ map checkpoint_bytes pushed = sym (ap (map checkpoint_bytes) is ∙ map-append checkpoint_bytes all (one.checkpoint ∷ [])) in
       placed rest from whole next number so
       ∙ ap (λ l. numbered_from 1 l ++ map numbered rest) (sym more)
       ∙ ap (λ l. numbered_from 1 (chained l) ++ map numbered rest) kept_are
 
-  pub last_next : (pushed : List Checkpoint) → pushed ≡ all ++ one.checkpoint ∷ [] → link_of (last_link before) (1 + length all) (kept one.checkpoint) ≡ last_link (map kept pushed)
+  pub last_next : (pushed : List Checkpoint) → pushed ≡ all ++ one.checkpoint ∷ [] → link_of (last_link before) (1 + length all) (checkpoint_bytes one.checkpoint) ≡ last_link (map checkpoint_bytes pushed)
   last_next pushed is =
-      let kept_are : before ++ kept one.checkpoint ∷ [] ≡ map kept pushed = sym (ap (map kept) is ∙ map-append kept all (one.checkpoint ∷ [])) in
-      ap (λ n. link_of (last_link before) n (kept one.checkpoint)) same_number ∙ sym (last_more before (kept one.checkpoint)) ∙ ap last_link kept_are
+      let kept_are : before ++ checkpoint_bytes one.checkpoint ∷ [] ≡ map checkpoint_bytes pushed = sym (ap (map checkpoint_bytes) is ∙ map-append checkpoint_bytes all (one.checkpoint ∷ [])) in
+      ap (λ n. link_of (last_link before) n (checkpoint_bytes one.checkpoint)) same_number ∙ sym (last_more before (checkpoint_bytes one.checkpoint)) ∙ ap last_link kept_are
 
   -- where it has another link, it was changed
   pub altered : (rest from : List Found) (whole : List Numbered) → from ≡ one ∷ rest → one.number ≡ pos (1 + length all)
-      → one.link.items ≢ link_of (last_link before) (1 + length all) (kept one.checkpoint)
+      → one.link.items ≢ link_of (last_link before) (1 + length all) (checkpoint_bytes one.checkpoint)
       → whole ≡ numbered_from 1 (chained before) ++ map numbered from → IsAlteredAt (1 + length all) whole
   altered rest from whole next number other so = record {
     front = before;
     one = (numbered one).linked;
     later = map numbered rest;
-    number_is = (let many = length-map all kept in omega (arith, many));
+    number_is = (let many = length-map all checkpoint_bytes in omega (arith, many));
     other = other;
     found_are = placed rest from whole next number so;
   }
 
 -- ---- the end of a list
 
-pub ends_after : (end next : ListEnd) (all : List Kept) (it : Kept) → IsEndOf end all → IsAfter end next it → IsEndOf next (all ++ it ∷ [])
+pub ends_after : (end next : ListEnd) (all : List CheckpointBytes) (it : CheckpointBytes) → IsEndOf end all → IsAfter end next it → IsEndOf next (all ++ it ∷ [])
 ends_after end next all it at after = record {
   count = let n = at.count in let m = after.count in let more = length-append all (it ∷ []) in m ∙ ap (λ k. k + 1) n ∙ sym more;
   link = after.link ∙ ap (λ (l : List ℕ). link_of l (end.count + 1) it) at.link ∙ ap (λ n. link_of (last_link all) (n + 1) it) at.count ∙ sym (last_more all it);
 }
 
 -- the checkpoint that makes it longer has the next number and the next link
-pub is_next : (end next : ListEnd) (all : List Kept) (it : Kept) → IsEndOf end all → IsAfter end next it → next.link ≡ link_of (last_link all) (length all + 1) it
+pub is_next : (end next : ListEnd) (all : List CheckpointBytes) (it : CheckpointBytes) → IsEndOf end all → IsAfter end next it → next.link ≡ link_of (last_link all) (length all + 1) it
 is_next end next all it at after = after.link ∙ ap (λ (l : List ℕ). link_of l (end.count + 1) it) at.link ∙ ap (λ n. link_of (last_link all) (n + 1) it) at.count
 
-pub is_wide : (end next : ListEnd) (it : Kept) → IsAfter end next it → length next.link ≡ 32
+pub is_wide : (end next : ListEnd) (it : CheckpointBytes) → IsAfter end next it → length next.link ≡ 32
 is_wide end next it after = ap (λ (l : List ℕ). length l) after.link ∙ link_length end.link (end.count + 1) it
 
-pub next_number : (end : ListEnd) (number : ℕ) (all : List Kept) → number ≡ end.count + 1 → IsEndOf end all → number ≡ length all + 1
+pub next_number : (end : ListEnd) (number : ℕ) (all : List CheckpointBytes) → number ≡ end.count + 1 → IsEndOf end all → number ≡ length all + 1
 next_number end number all is at = is ∙ ap (λ n. n + 1) at.count

@@ -7,8 +7,8 @@ use Rattle.sqlite.specs.Schema.{Schema}
 use Rattle.sqlite_trees.specs.Objects.{catalog_tree}
 use Rattle.sqlite_catalog.specs.Listing.{IsSound}
 use Rattle.sqlite_catalog.proofs.ReadLemmas.{lists_once}
-use Rattle.jb_slice_file.specs.Form.{checkpoint_schema, no_schema}
-use Rattle.jb_slice_file.specs.Kept.{Kept}
+use Rattle.jb_slice_file.specs.TableSchema.{checkpoint_schema, no_schema}
+use Rattle.jb_slice_file.specs.CheckpointBytes.{CheckpointBytes}
 use Rattle.jb_slice_file.specs.Rows.{AreIn, HoldsList, StandsFor, Has, ShowsList}
 use Rattle.jb_slice_file.specs.Connections.{IsJustOpened, Keeps}
 
@@ -22,7 +22,7 @@ module _ (s : State) (settled : (db : Trees) → IsTrue s.is_open → s.may_leav
   pub is_sound : s.now.schema ≡ checkpoint_schema → IsSound checkpoint_schema s.now.trees
   is_sound ours = subst (λ x. IsSound x s.now.trees) ours (opened.1 opened.0.is_open).0
 
-  pub keeps_found : s.now.schema ≡ checkpoint_schema → (all : List Kept) → AreIn s.now.trees all → Keeps s all
+  pub keeps_found : s.now.schema ≡ checkpoint_schema → (all : List CheckpointBytes) → AreIn s.now.trees all → Keeps s all
   keeps_found ours all rows = record {
     autocommit = opened.0.autocommit;
     same = λ _. opened.0.clean;
@@ -31,7 +31,7 @@ module _ (s : State) (settled : (db : Trees) → IsTrue s.is_open → s.may_leav
   }
 
 -- the files held a database that stands for the list, and the open found it
-pub shows_found : (s : State) → IsJustOpened s → (db : Trees) → s.committed.trees ≡ db → (all : List Kept) → Has db all → ShowsList s.now all
+pub shows_found : (s : State) → IsJustOpened s → (db : Trees) → s.committed.trees ≡ db → (all : List CheckpointBytes) → Has db all → ShowsList s.now all
 shows_found s opened db is all has = go has
   where
     live : IsSound s.now.schema s.now.trees
@@ -48,21 +48,21 @@ shows_found s opened db is all has = go has
     go (inr none) = inr (schema_is no_schema none.0, none.1)
 
 -- what the database has it shows, and the other way about
-pub shows_now : (s : State) → IsJustOpened s → (all : List Kept) → Has s.now.trees all → ShowsList s.now all
+pub shows_now : (s : State) → IsJustOpened s → (all : List CheckpointBytes) → Has s.now.trees all → ShowsList s.now all
 shows_now s opened all has = shows_found s opened s.now.trees (ap (λ (d : Database). d.trees) (sym opened.0.clean)) all has
 
-has_shown : (s : State) → IsJustOpened s → (all : List Kept) → ShowsList s.now all → Has s.now.trees all
+has_shown : (s : State) → IsJustOpened s → (all : List CheckpointBytes) → ShowsList s.now all → Has s.now.trees all
 has_shown s opened all (inl holds) = inl (record { sound = subst (λ x. IsSound x s.now.trees) holds.schema (opened.1 opened.0.is_open).0; rows = holds.rows })
 has_shown s opened all (inr none) = inr (subst (λ x. IsSound x s.now.trees) none.0 (opened.1 opened.0.is_open).0, none.1)
 
 -- what a crash leaves while the list is taken has the same one
-pub has_left : (s : State) → IsJustOpened s → (all : List Kept) → ShowsList s.now all → (db : Trees) → (db ≡ s.now.trees) ⊎ ((s.now.schema ≡ no_schema) × StandsFor db []) → Has db all
+pub has_left : (s : State) → IsJustOpened s → (all : List CheckpointBytes) → ShowsList s.now all → (db : Trees) → (db ≡ s.now.trees) ⊎ ((s.now.schema ≡ no_schema) × StandsFor db []) → Has db all
 has_left s opened all shows db (inl same) = subst (λ t. Has t all) (sym same) (has_shown s opened all shows)
 has_left s opened all (inl holds) db (inr fresh) = absurd (apart (sym holds.schema ∙ fresh.0))
 has_left s opened all (inr none) db (inr fresh) = inl (subst (StandsFor db) (sym none.1) fresh.1)
 
 -- what only read keeps the list
-pub keeps_read : (old new : State) (all : List Kept) → Keeps old all → IsUnchanged old new → ((db : Trees) → new.may_leave db → old.may_leave db) → Keeps new all
+pub keeps_read : (old new : State) (all : List CheckpointBytes) → Keeps old all → IsUnchanged old new → ((db : Trees) → new.may_leave db → old.may_leave db) → Keeps new all
 keeps_read old new all keeps u left = record {
   autocommit = u.0.mode ∙ keeps.autocommit;
   same = λ _. u.0.now_is ∙ keeps.same u.0.was_open ∙ sym u.0.committed_is;

@@ -27,9 +27,9 @@ use Rattle.sqlite.specs.declared.file.Leftover.{Leftover}
 use Rattle.sqlite.specs.declared.file.Leftover.TheVariants as left
 use Rattle.jb_slice_file.specs.Rows.{Has, ShowsList}
 use Rattle.jb_slice_file.specs.Connections.{IsJustOpened}
-use Rattle.jb_slice_file.specs.Kept.{Kept}
-use Rattle.jb_slice_file.specs.Form.{checkpoint_schema, no_schema}
-use Rattle.jb_slice_file.specs.Files.{HoldsWhole, CanGoOn, IsResumable, HoldsPages, HoldsRun, HoldsRunOrNone, IsOfARun, Leaves, LeavesImage, MayGoOn, has_store}
+use Rattle.jb_slice_file.specs.CheckpointBytes.{CheckpointBytes}
+use Rattle.jb_slice_file.specs.TableSchema.{checkpoint_schema, no_schema}
+use Rattle.jb_slice_file.specs.Files.{HoldsWhole, CanGoOn, IsResumable, HoldsPages, HoldsRun, HoldsRunOrNone, HasRunCheckpoints, Leaves, LeavesImage, MayGoOn, has_store}
 use Rattle.jb_slice_file.proofs.Opened.{shows_found}
 use Rattle.jb_slice_file.proofs.Pages.{pages_once, something, stands_pages}
 use Rattle.jb_slice_file.proofs.Tables.{IsChecked, one_list}
@@ -106,7 +106,7 @@ module _ (image : Image) (db : Trees) (is_numbered : Bool) (held : HoldsPages is
   )
 
   -- where both are checkpoints or nothing, the tables have their numbers
-  named : (all : List Kept) → Has db all → (schema : Schema) → IsSound schema (file_trees size wanted pages) → (schema ≡ no_schema) ⊎ (schema ≡ checkpoint_schema)
+  named : (all : List CheckpointBytes) → Has db all → (schema : Schema) → IsSound schema (file_trees size wanted pages) → (schema ≡ no_schema) ⊎ (schema ≡ checkpoint_schema)
       → IsOurs held.0 true held.2.wanted (trimmed held.0 stored)
   named all has schema sound is =
       let listed : db catalog_tree ≡ listed_from 0 held.2.wanted = ap (λ d. d catalog_tree) held.2.reads ∙ catalog_rows held.0 held.2.wanted _ in
@@ -122,12 +122,12 @@ module _ (image : Image) (db : Trees) (is_numbered : Bool) (held : HoldsPages is
       let one = one_list held.0 (trimmed held.0 stored) held.2.wanted wanted held.2.ours.file here ours found in
       (same_file held.0 wanted held.2.wanted (trimmed held.0 stored) (sym one) here).0
 
-abbrev pub Resumes : Bool → (List Kept → Type 0) → Image → Type 0
-Resumes is_numbered so_far image = ((db : Trees) × HoldsPages is_numbered image db × IsOfARun so_far db) ⊎ (IsNothing image × so_far [])
+abbrev pub Resumes : Bool → (List CheckpointBytes → Type 0) → Image → Type 0
+Resumes is_numbered so_far image = ((db : Trees) × HoldsPages is_numbered image db × HasRunCheckpoints so_far db) ⊎ (IsNothing image × so_far [])
 
 -- what an open finds in files from which a run resumes: their database, or none in either
-meets : {A : Type 0} (is_numbered : Bool) (so_far : List Kept → Type 0) (image : Image) (trees : Trees) → Resumes is_numbered so_far image → AreFoundIn image trees
-    → ((db : Trees) → HoldsPages is_numbered image db → IsOfARun so_far db → (size : ℕ) (pages : Pages) (wanted : List Wanted) → Adopts size image pages → IsOurs size true wanted pages
+meets : {A : Type 0} (is_numbered : Bool) (so_far : List CheckpointBytes → Type 0) (image : Image) (trees : Trees) → Resumes is_numbered so_far image → AreFoundIn image trees
+    → ((db : Trees) → HoldsPages is_numbered image db → HasRunCheckpoints so_far db → (size : ℕ) (pages : Pages) (wanted : List Wanted) → Adopts size image pages → IsOurs size true wanted pages
     → trees ≡ file_trees size wanted pages → A)
     → (so_far [] → IsSound no_schema trees → A) → ∥ A ∥₁
 meets is_numbered so_far image trees (inl h) (inl there) both none = ∥∥₁_map there.4 (λ exact. both h.0 h.1 h.2 there.0 there.1 there.2 there.3 exact there.5)
@@ -136,25 +136,25 @@ meets is_numbered so_far image trees (inr empty) (inl there) both none = ∥∥�
 meets is_numbered so_far image trees (inr empty) (inr nothing) both none = ∣ none empty.1 (empty_is_sound trees nothing.1.1) ∣₁
 
 -- a database of an open that tells what it found in files from which a run may go on
-pub found_run : (so_far : List Kept → Type 0) (image : Image) (trees : Trees) → MayGoOn so_far image → AreFoundIn image trees → ((db : Trees) → HoldsDatabase image db → trees ≡ db)
-    → (schema : Schema) → IsSound schema trees → (schema ≡ no_schema) ⊎ (schema ≡ checkpoint_schema) → ∥ IsOfARun so_far trees ∥₁
+pub found_run : (so_far : List CheckpointBytes → Type 0) (image : Image) (trees : Trees) → MayGoOn so_far image → AreFoundIn image trees → ((db : Trees) → HoldsDatabase image db → trees ≡ db)
+    → (schema : Schema) → IsSound schema trees → (schema ≡ no_schema) ⊎ (schema ≡ checkpoint_schema) → ∥ HasRunCheckpoints so_far trees ∥₁
 found_run so_far image trees may reads holds schema sound is = ∥∥₁_elim may squash₁ (λ from. meets false so_far image trees from reads
     (λ db held run size pages wanted taken exact same.
     let ours = named image db false held size pages wanted taken exact run.0 run.1 schema (subst (IsSound schema) same sound) is in
     (run.0, subst (λ t. Has t run.0) (sym (holds db (as_database image db false held size pages wanted taken exact ours))) run.1, run.2))
     (λ fresh empty. ([], inr (empty, refl), fresh)))
 
-pub run_goes_on : (so_far : List Kept → Type 0) (image : Image) → HoldsRun so_far image → CanGoOn so_far image
+pub run_goes_on : (so_far : List CheckpointBytes → Type 0) (image : Image) → HoldsRun so_far image → CanGoOn so_far image
 run_goes_on so_far image run = ∥∥₁_map run (λ h. let r : Resumes true so_far image = inl (h.0, whole_pages image h.0 h.1, h.2) in r)
 
-pub none_goes_on : (so_far : List Kept → Type 0) (image : Image) → HoldsRunOrNone so_far image → CanGoOn so_far image
+pub none_goes_on : (so_far : List CheckpointBytes → Type 0) (image : Image) → HoldsRunOrNone so_far image → CanGoOn so_far image
 none_goes_on so_far image (inl run) = run_goes_on so_far image run
 none_goes_on so_far image (inr none) = ∣ inr none ∣₁
 
-pub may_go_on : (so_far : List Kept → Type 0) (image : Image) → CanGoOn so_far image → MayGoOn so_far image
+pub may_go_on : (so_far : List CheckpointBytes → Type 0) (image : Image) → CanGoOn so_far image → MayGoOn so_far image
 may_go_on so_far image can = ∥∥₁_map can (λ from. let r : Resumes false so_far image = elim from [ inl h ↦ inl (h.0, with_numbers false image h.0 h.1, h.2) | inr none ↦ inr none ] in r)
 
-module _ {D : Type 0} {g : Ghosts D} (so_far : List Kept → Type 0) (stays : SeenMayStay g) (files : Files D) where
+module _ {D : Type 0} {g : Ghosts D} (so_far : List CheckpointBytes → Type 0) (stays : SeenMayStay g) (files : Files D) where
   -- an open that was cut leaves the run that was there
   pub cut_run : (rest : Leftover D g) → has_store rest ≡ false → LeavesFiles files rest → (image : Image) → LeavesImage rest image → Leaves g (HoldsRun so_far) files → HoldsRun so_far image
   cut_run (left.Files now) bare cut image may leaves = leaves image (cut image may)
@@ -163,7 +163,7 @@ module _ {D : Type 0} {g : Ghosts D} (so_far : List Kept → Type 0) (stays : Se
     | inl fresh ↦ absurd (is_something (image_of g files) h.0 (whole_is_database (image_of g files) h.0 h.1) fresh.0)
     | inr there ↦ elim (there.4 image may).same [
       | inl was ↦ leaves image was
-      | inr stands ↦ let r : (db : Trees) × HoldsWhole image db × IsOfARun so_far db = (h.0, stands_whole (image_of g files) image h.0 h.1 (state_of now).page_size there.1 there.3 stands, h.2) in ∣ r ∣₁
+      | inr stands ↦ let r : (db : Trees) × HoldsWhole image db × HasRunCheckpoints so_far db = (h.0, stands_whole (image_of g files) image h.0 h.1 (state_of now).page_size there.1 there.3 stands, h.2) in ∣ r ∣₁
     ]
   ])
 

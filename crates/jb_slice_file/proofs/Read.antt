@@ -25,9 +25,9 @@ use Rattle.sqlite.specs.Listing.{understood}
 use Rattle.sqlite.specs.Clock.{timed}
 use Rattle.sqlite.specs.State.{State, HasCleanDisk, IsUnchanged, Survives, Shown, ShowsRows, CommitsShowing}
 use Rattle.sqlite.proofs.Callers.{IsPlain, reads_as, never_commits}
-use Rattle.jb_slice_file.specs.Form.{checkpoint, checkpoint_schema}
+use Rattle.jb_slice_file.specs.TableSchema.{checkpoint, checkpoint_schema}
 use Rattle.std.proofs.lemmas.List.{map-append}
-use Rattle.jb_slice_file.specs.Kept.{Kept}
+use Rattle.jb_slice_file.specs.CheckpointBytes.{CheckpointBytes}
 use Rattle.jb_slice_file.specs.Chain.{Linked, chained}
 use Rattle.jb_slice_file.specs.Numbered.{IsAlteredAt, Numbered, numbered_from}
 use Rattle.jb_slice_file.specs.Rows.{AreIn, IsAltered, columns_of, stored, stored_from, shown_from}
@@ -40,8 +40,8 @@ use Rattle.jb_slice_file.proofs.Lists.{out, shown_of, rises}
 abbrev pub shows : Row → Row
 shows row = (out row).1
 
-abbrev pub kept_as : Row → Row
-kept_as row = column row 0 ∷ Null ∷ column row 1 ∷ column row 2 ∷ column row 3 ∷ []
+abbrev pub stored_as : Row → Row
+stored_as row = column row 0 ∷ Null ∷ column row 1 ∷ column row 2 ∷ column row 3 ∷ []
 
 null_is : (v : Value) → is_null v ≡ true → v ≡ Null
 null_is Null h = refl
@@ -51,7 +51,7 @@ never : (w x y z : Bool) → (w && (x && (y && (z && false)))) ≡ true → ⊥
 never w x y z h = true≢false (sym (and_parts z false (and_parts y _ (and_parts x _ (and_parts w _ h).1).1).1).1)
 
 -- a row that keeps the table's rules has its number, NULL, a text and twice bytes
-formed : (db : Trees) (row : Row) → passes Datatype checkpoint_schema db checkpoint row ≡ true → passes NotNull checkpoint_schema db checkpoint row ≡ true → kept_as (shows row) ≡ row
+formed : (db : Trees) (row : Row) → passes Datatype checkpoint_schema db checkpoint row ≡ true → passes NotNull checkpoint_schema db checkpoint row ≡ true → stored_as (shows row) ≡ row
 formed db [] typed there = absurd (true≢false (sym there))
 formed db (a ∷ []) typed there = absurd (true≢false (sym there))
 formed db (a ∷ b ∷ []) typed there = absurd (true≢false (sym there))
@@ -61,11 +61,11 @@ formed db (a ∷ b ∷ c ∷ d ∷ e ∷ []) typed there = ap (λ x. a ∷ x ∷
 formed db (a ∷ b ∷ c ∷ d ∷ e ∷ f ∷ more) typed there = absurd (never (is_null b) (is_of Text c) (is_of Blob d) (is_of Blob e) (and_parts _ _ typed).0)
 
 all_formed : (db : Trees) (rows : List Row) → AllByRecursion (λ row. passes Datatype checkpoint_schema db checkpoint row ≡ true) rows
-    → AllByRecursion (λ row. passes NotNull checkpoint_schema db checkpoint row ≡ true) rows → map kept_as (map shows rows) ≡ rows
+    → AllByRecursion (λ row. passes NotNull checkpoint_schema db checkpoint row ≡ true) rows → map stored_as (map shows rows) ≡ rows
 all_formed db [] typed there = refl
 all_formed db (row ∷ rows) typed there = λ i. formed db row typed.0 there.0 i ∷ all_formed db rows typed.1 there.1 i
 
-was_of : (number : ℕ) (all : List Linked) → map kept_as (shown_from number all) ≡ stored_from number all
+was_of : (number : ℕ) (all : List Linked) → map stored_as (shown_from number all) ≡ stored_from number all
 was_of number [] = refl
 was_of number (it ∷ more) = ap (λ rows. stored number it ∷ rows) (was_of (suc number) more)
 
@@ -104,15 +104,15 @@ module _ (old new : State) (ours : old.now.schema ≡ checkpoint_schema) (rows :
       four (r ∷ l) = (refl, four l)
 
   -- the rows of the table are those that were read
-  rows_back : IsSound checkpoint_schema old.now.trees → IsPermutation (map kept_as rows) (old.now.trees 0)
+  rows_back : IsSound checkpoint_schema old.now.trees → IsPermutation (map stored_as rows) (old.now.trees 0)
   rows_back sound =
       let typed = (sound.obeys.rules Datatype).0 in
       let there = (sound.obeys.rules NotNull).0 in
-      let moved = IsPermutation-map kept_as _ _ shown_rows in
-      IsPermutation-sym _ _ (subst (λ l. IsPermutation l (map kept_as rows)) (all_formed old.now.trees (old.now.trees 0) typed there) moved)
+      let moved = IsPermutation-map stored_as _ _ shown_rows in
+      IsPermutation-sym _ _ (subst (λ l. IsPermutation l (map stored_as rows)) (all_formed old.now.trees (old.now.trees 0) typed there) moved)
 
-  pub lists_back : IsSound checkpoint_schema old.now.trees → (all : List Kept) → rows ≡ shown_from 1 (chained all) → AreIn old.now.trees all
-  lists_back sound all is = subst (λ l. IsPermutation l (old.now.trees 0)) (ap (map kept_as) is ∙ was_of 1 (chained all)) (rows_back sound)
+  pub lists_back : IsSound checkpoint_schema old.now.trees → (all : List CheckpointBytes) → rows ≡ shown_from 1 (chained all) → AreIn old.now.trees all
+  lists_back sound all is = subst (λ l. IsPermutation l (old.now.trees 0)) (ap (map stored_as) is ∙ was_of 1 (chained all)) (rows_back sound)
 
   -- one of them has another link
   pub altered_back : IsSound checkpoint_schema old.now.trees → (number : ℕ) (found : List Numbered) → rows ≡ map columns_of found → IsAlteredAt number found → IsAltered number old.now.trees
@@ -120,19 +120,19 @@ module _ (old new : State) (ours : old.now.schema ≡ checkpoint_schema) (rows :
       let list = chained at.front ++ at.one ∷ [] in
       let shown : rows ≡ shown_from 1 list ++ map columns_of at.later = is ∙ ap (map columns_of) at.found_are ∙ map-append columns_of (numbered_from 1 list) at.later
       ∙ ap (λ l. l ++ map columns_of at.later) (rows_of_list 1 list) in
-      let stored : map kept_as rows ≡ stored_from 1 list ++ map kept_as (map columns_of at.later) = ap (map kept_as) shown ∙ map-append kept_as (shown_from 1 list) (map columns_of at.later)
-      ∙ ap (λ l. l ++ map kept_as (map columns_of at.later)) (was_of 1 list) in
+      let stored : map stored_as rows ≡ stored_from 1 list ++ map stored_as (map columns_of at.later) = ap (map stored_as) shown ∙ map-append stored_as (shown_from 1 list) (map columns_of at.later)
+      ∙ ap (λ l. l ++ map stored_as (map columns_of at.later)) (was_of 1 list) in
       record {
         front = at.front;
         one = at.one;
-        later = map kept_as (map columns_of at.later);
+        later = map stored_as (map columns_of at.later);
         number_is = at.number_is;
         other = at.other;
         rows = subst (λ l. IsPermutation l (old.now.trees 0)) stored (rows_back sound);
       }
 
   -- and so they aren't those of a list
-  pub never_listed : (number : ℕ) (found : List Numbered) (all : List Kept) → rows ≡ map columns_of found → AreIn old.now.trees all → IsAlteredAt number found → ⊥
+  pub never_listed : (number : ℕ) (found : List Numbered) (all : List CheckpointBytes) → rows ≡ map columns_of found → AreIn old.now.trees all → IsAlteredAt number found → ⊥
   never_listed number found all is are at =
       never_altered number found all (rows_once found (numbered_from 1 (chained all)) (sym is ∙ lists (chained all) are ∙ sym (rows_of_list 1 (chained all)))) at
 

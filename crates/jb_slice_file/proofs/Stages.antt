@@ -3,18 +3,18 @@ use Rattle.std.proofs.Common.{◌≡◌, ◌&&◌, ◌||◌, Bool, true, false, 
 use Rattle.sqlite_disk.specs.declared.Disk.{Ghosts}
 use Rattle.sqlite_disk.specs.declared.Files.{Files}
 use Rattle.sqlite_wal.specs.Reads.{AreClean}
-use Rattle.jb_slice_file.specs.Kept.{Kept}
+use Rattle.jb_slice_file.specs.CheckpointBytes.{CheckpointBytes}
 use Rattle.jb_slice_file.specs.Files.{CanGoOn, HoldsRun, HoldsRunOrNone, Leaves, MayGoOn}
-use Rattle.jb_slice_file.specs.declared.stop.Life.{Life}
-use Rattle.jb_slice_file.specs.Lives.{IsLifeOver}
+use Rattle.jb_slice_file.specs.declared.stop.ProcessRun.{ProcessRun}
+use Rattle.jb_slice_file.specs.ProcessRuns.{IsProcessRunOver}
 use Rattle.jb_slice_file.proofs.Opens.{may_go_on, none_goes_on, run_goes_on}
 
 -- WHAT LIVES LEAVE: files from which a run may go on and, unless an open was cut of which the kit doesn't say it, whose tables have their numbers
-pub record StandAfter {D : Type 0} (g : Ghosts D) (so_far : List Kept → Type 0) (is_sure : Bool) (files : Files D) : Type 0 where
+pub record StandAfter {D : Type 0} (g : Ghosts D) (so_far : List CheckpointBytes → Type 0) (is_sure : Bool) (files : Files D) : Type 0 where
   pub sure : IsTrue is_sure → Leaves g (CanGoOn so_far) files
   pub all : Leaves g (MayGoOn so_far) files
 
-module _ {D : Type 0} {g : Ghosts D} (so_far : List Kept → Type 0) where
+module _ {D : Type 0} {g : Ghosts D} (so_far : List CheckpointBytes → Type 0) where
   pub begins : (files : Files D) → Leaves g (HoldsRunOrNone so_far) files → StandAfter g so_far true files
   begins files leaves =
       let can : Leaves g (CanGoOn so_far) files = λ image may. none_goes_on so_far image (leaves image may) in record { sure = λ _. can; all = λ image may. may_go_on so_far image (can image may) }
@@ -34,7 +34,7 @@ module _ {D : Type 0} {g : Ghosts D} (so_far : List Kept → Type 0) where
     stands_on false true true once ran first again loosens at = record { sure = λ no. absurd (true≢false (sym no)); all = loosens (at.sure refl) }
     stands_on false true false once ran first again loosens at = absurd (true≢false once)
 
-  pub one_life : (before : Files D) (life : Life D) (sure : Bool) → (life.is_loose && not sure) ≡ false → AreClean g life.files.log life.files.db → IsLifeOver g so_far before life
-      → StandAfter g so_far sure before → StandAfter g so_far (life.has_run || (sure && not life.is_loose)) life.files
-  one_life before life sure once honest over = stands_on before life.files life.has_run life.is_loose sure once
+  pub one_process_run : (before : Files D) (process_run : ProcessRun D) (sure : Bool) → (process_run.is_loose && not sure) ≡ false → AreClean g process_run.files.log process_run.files.db → IsProcessRunOver g so_far before process_run
+      → StandAfter g so_far sure before → StandAfter g so_far (process_run.has_run || (sure && not process_run.is_loose)) process_run.files
+  one_process_run before process_run sure once honest over = stands_on before process_run.files process_run.has_run process_run.is_loose sure once
       (λ runs. over.ran runs honest) (λ firm. over.first firm honest) (λ firm. over.again firm honest) (over.loose honest)

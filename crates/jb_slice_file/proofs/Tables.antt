@@ -29,7 +29,7 @@ use Rattle.sqlite_trees.specs.declared.store.Shape.TheVariants.{Absent, Table}
 use Rattle.sqlite_value.proofs.OrderLemmas.{value_cmp-Text}
 use Rattle.sqlite_value.specs.Order.{Row, column}
 use Rattle.sqlite_value.specs.declared.value.Value.TheVariants.{Int, Text}
-use Rattle.jb_slice_file.specs.Form.{checkpoint, checkpoint_schema, no_schema}
+use Rattle.jb_slice_file.specs.TableSchema.{checkpoint, checkpoint_schema, no_schema}
 
 same_text : (a b : List ℕ) → same_value (Text a) (Text b) ≡ true → a ≡ b
 same_text a b same = (bytes_eq-Decides a b).0 (sym (is_eq-slice_cmp a b) ∙ sym (ap is_eq (value_cmp-Text a b)) ∙ same)

@@ -28,8 +28,8 @@ use Rattle.sqlite.specs.Effect.{Database}
 use Rattle.sqlite.specs.State.{State, HasCleanDisk, mode_of, Writes, Executes, ExecutesIn, IsNotRun, IsUnchanged, IsRolledBack, Survives, CommitsBy, MayCommit, RunsCommand, shows_rows}
 use Rattle.sqlite_resolve.specs.declared.compiled.Compiled.{Compiled}
 use Rattle.sqlite.proofs.Callers.{IsPlain, command_of, statement_of, runs_as, one_step}
-use Rattle.jb_slice_file.specs.Form.{checkpoint, checkpoint_schema, no_schema}
-use Rattle.jb_slice_file.specs.Kept.{Kept}
+use Rattle.jb_slice_file.specs.TableSchema.{checkpoint, checkpoint_schema, no_schema}
+use Rattle.jb_slice_file.specs.CheckpointBytes.{CheckpointBytes}
 use Rattle.jb_slice_file.specs.Chain.{Linked, chained, last_link, link_of}
 use Rattle.jb_slice_file.proofs.Chains.{as_many, chained_more}
 use Rattle.jb_slice_file.specs.Rows.{HoldsList, StandsFor, stored, stored_from}
@@ -72,11 +72,11 @@ makes s has tally after changed =
     record { schema = ap (λ (d : Database). d.schema) now ∙ schema; rows = subst (λ rows. IsPermutation [] rows) (sym empty) (IsPermutation-refl []) }
 
 -- it has the link that it must have behind these
-abbrev pub IsNext : List Kept → Linked → Type 0
+abbrev pub IsNext : List CheckpointBytes → Linked → Type 0
 IsNext all one = one.link ≡ link_of (last_link all) (length all + 1) one.it
 
 -- the row that goes in, behind the others
-joins : (trees : List Row) (all : List Kept) (it : Linked) → IsNext all it → IsPermutation (stored_from 1 (chained all)) trees → is_taken trees (stored (length all + 1) it) ≡ false
+joins : (trees : List Row) (all : List CheckpointBytes) (it : Linked) → IsNext all it → IsPermutation (stored_from 1 (chained all)) trees → is_taken trees (stored (length all + 1) it) ≡ false
     → IsPermutation (stored_from 1 (chained (all ++ it.it ∷ []))) (put_row (stored (length all + 1) it) trees)
 joins trees all it next rows free =
     let many = as_many all in
@@ -98,7 +98,7 @@ insert_statement = statement_of insert_text (understood checkpoint_schema insert
 abbrev pub Inserted : State → Row → Tally → Database → Type 0
 Inserted s row tally after = Does s.step_limit (mode_of s) row s.now insert_statement None command (Ok (tally, after))
 
-pub inserts : (s : State) (all : List Kept) (it : Linked) (number : ℕ) → number ≡ length all + 1 → IsNext all it → HoldsList s.now all → (tally : Tally) (after : Database) → Inserted s (params number it) tally after
+pub inserts : (s : State) (all : List CheckpointBytes) (it : Linked) (number : ℕ) → number ≡ length all + 1 → IsNext all it → HoldsList s.now all → (tally : Tally) (after : Database) → Inserted s (params number it) tally after
     → HoldsList after (all ++ it.it ∷ [])
 inserts s all it number at next holds tally after changed =
     let row = params number it in
@@ -122,7 +122,7 @@ inserts s all it number at next holds tally after changed =
 
 -- what a statement commits whose text is known, which neither commits nor releases, and which makes these of the list
 module _ (s : State) (sql : List ℕ) (given : Row) (schema : Schema) (has : s.now.schema ≡ schema) (command : Command) (is : command_of (understood schema sql) ≡ command)
-    (plain : IsPlain (understood schema sql)) (other : (command ≡ Commit → ⊥) × ((name : List ℕ) → command ≡ Release name → ⊥)) (all : List Kept)
+    (plain : IsPlain (understood schema sql)) (other : (command ≡ Commit → ⊥) × ((name : List ℕ) → command ≡ Release name → ⊥)) (all : List CheckpointBytes)
     (lists : (tally : Tally) (after : Database) → Does s.step_limit (mode_of s) given s.now (statement_of sql (understood schema sql)) None command (Ok (tally, after)) → HoldsList after all) where
   commits : (db : Trees) → CommitsBy sql given s db → StandsFor db all
   unfolding CommitsBy
@@ -138,7 +138,7 @@ module _ (s : State) (sql : List ℕ) (given : Row) (schema : Schema) (has : s.n
           let holds = lists w.1 w.2 w.3 in
           subst (λ x. StandsFor x all) (sym w.5) (record { sound = subst (λ x. IsSound x w.2.trees) holds.schema w.4; rows = holds.rows })
 
-module _ (old new : State) (settled : (db : Trees) → IsTrue new.is_open → new.may_leave db → db ≡ new.committed.trees) (all : List Kept) where
+module _ (old new : State) (settled : (db : Trees) → IsTrue new.is_open → new.may_leave db → db ≡ new.committed.trees) (all : List CheckpointBytes) where
   -- a write that was made and committed
   wrote : {command : Command} {text : List ℕ} {row : Row} {count : ℕ} → old.in_transaction ≡ false → Writes old new None command text row count → HoldsList new.now all → Keeps new all
   wrote autocommit w holds =
@@ -189,7 +189,7 @@ module _ (old new : State) (settled : (db : Trees) → IsTrue new.is_open → ne
   failed it number (Err e) keeps stays h = fails it number e keeps stays h
 
 module _ (old new : State) (settled : (db : Trees) → IsTrue new.is_open → new.may_leave db → db ≡ new.committed.trees) where
-  pub appended : (all : List Kept) (it : Linked) (number : ℕ) (r : Result ℕ Error) → number ≡ length all + 1 → IsNext all it → Keeps old all → Executes insert_text (params number it) old new r
+  pub appended : (all : List CheckpointBytes) (it : Linked) (number : ℕ) (r : Result ℕ Error) → number ≡ length all + 1 → IsNext all it → Keeps old all → Executes insert_text (params number it) old new r
       → OnOk r (Keeps new (all ++ it.it ∷ []))
   appended all it number (Ok count) at next keeps h =
       let w = runs_as insert_text (params number it) old new checkpoint_schema keeps.shows.schema command insert_is.0 insert_is.1 count h in
@@ -206,6 +206,6 @@ module _ (old new : State) (settled : (db : Trees) → IsTrue new.is_open → ne
 pub made_survives : (old new : State) → old.now.schema ≡ no_schema → HasCleanDisk new → Survives old new (CommitsBy create_text [] old) → (db : Trees) → new.may_leave db → old.may_leave db ⊎ StandsFor db []
 made_survives old new has clean s db may = elim (s.crash clean db may) [ inl was ↦ inl was | inr is ↦ inr (commits old create_text [] no_schema has CreateTable create_is.0 create_is.3 ((λ e. cc), (λ n e. cc)) [] (λ t d does. makes old has t d (subst (λ x. Does old.step_limit (mode_of old) [] old.now x None CreateTable (Ok (t, d))) create_is.1 does)) db is) ]
 
-pub survived : (old new : State) (all : List Kept) (it : Linked) (number : ℕ) → number ≡ length all + 1 → IsNext all it → Keeps old all → HasCleanDisk new → Survives old new (CommitsBy insert_text (params number it) old)
+pub survived : (old new : State) (all : List CheckpointBytes) (it : Linked) (number : ℕ) → number ≡ length all + 1 → IsNext all it → Keeps old all → HasCleanDisk new → Survives old new (CommitsBy insert_text (params number it) old)
     → (db : Trees) → new.may_leave db → StandsFor db all ⊎ StandsFor db (all ++ it.it ∷ [])
 survived old new all it number at next keeps clean s db may = elim (s.crash clean db may) [ inl was ↦ inl (keeps.leaves db was) | inr is ↦ inr (commits old insert_text (params number it) checkpoint_schema keeps.shows.schema command insert_is.0 insert_is.1 ((λ e. cc), (λ n e. cc)) (all ++ it.it ∷ []) (inserts old all it number at next keeps.shows) db is) ]

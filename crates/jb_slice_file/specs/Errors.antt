@@ -8,7 +8,7 @@ use Rattle.sqlite.specs.declared.error.ErrorCode.TheVariants as code
 use Rattle.sqlite_schema.specs.declared.schema.Constraint.TheVariants.{PrimaryKey}
 use Rattle.jb_slice_file.specs.declared.error.StoreError.{StoreError}
 use Rattle.jb_slice_file.specs.Rows.{HasGap, IsAltered}
-use Rattle.jb_slice_file.specs.Form.{IsForeign, IsOtherVersion, checkpoint_schema}
+use Rattle.jb_slice_file.specs.TableSchema.{IsForeign, IsOtherVersion, checkpoint_schema}
 use Rattle.jb_slice_file.specs.declared.error.StoreError.TheVariants.{Foreign, Version, Gap, Altered, Damaged, Busy, CannotOpen, Full, Disk, Shut, TooLong, Taken, TooMany, Memory, Sql}
 
 -- how a refusal of SQLite is named here
@@ -26,11 +26,11 @@ refusal_named (SqliteFailure code.OutOfMemory) = Memory
 refusal_named e = Sql e
 
 -- a refusal of what the database holds
-abbrev pub IsOfTheList : StoreError → Type 0
-IsOfTheList e = (e ≡ Foreign) ⊎ ((e ≡ Version) ⊎ ((e ≡ Gap) ⊎ ((number : ℕ) × (e ≡ Altered number))))
+abbrev pub IsListRefusal : StoreError → Type 0
+IsListRefusal e = (e ≡ Foreign) ⊎ ((e ≡ Version) ⊎ ((e ≡ Gap) ⊎ ((number : ℕ) × (e ≡ Altered number))))
 
--- What came to pass where a statement fails that makes the table or reads it: a call of the disk failed, the connection was shut before,
--- memory lacked, or SQLite has another reason.
+-- Why a statement that makes or reads the table fails. A call of the disk failed, the connection was shut before, it was out of memory, or
+-- SQLite has another reason.
 abbrev pub IsStoreFault : State → State → StoreError → Type 0
 IsStoreFault old new Foreign = ⊥
 IsStoreFault old new Version = ⊥
@@ -48,12 +48,12 @@ IsStoreFault old new TooMany = ⊥
 IsStoreFault old new Memory = ⊤
 IsStoreFault old new (Sql e) = ⊤
 
--- the same where all rows are listed, or their numbers have a gap, or one of them was changed
+-- why listing all rows fails: for one of these reasons, or their numbers have a gap, or one of them was changed
 abbrev pub IsListFault : State → State → StoreError → Type 0
 IsListFault old new e = (e ≡ Gap) ⊎ (((number : ℕ) × (e ≡ Altered number)) ⊎ IsStoreFault old new e)
 
--- What came to pass where the list of a connection that was just opened isn't taken: its database is of another kind, of another version,
--- has a gap or was changed, or a call of the disk failed.
+-- Why the list of a connection that was just opened isn't taken. Its database is of another kind or version, has a gap or was changed. Or a
+-- call of the disk failed, it was out of memory, or SQLite has another reason.
 abbrev pub IsOpenCause : State → State → StoreError → Type 0
 IsOpenCause old new Foreign = IsForeign old.now.schema
 IsOpenCause old new Version = IsOtherVersion old.now.schema
@@ -71,8 +71,9 @@ IsOpenCause old new TooMany = ⊥
 IsOpenCause old new Memory = ⊤
 IsOpenCause old new (Sql e) = ⊤
 
--- What came to pass where an append fails with this error: a call of the disk failed, the connection was shut before, there is a
--- checkpoint with the number, the new one is too long, or there is no number for it. The refusals of an open don't come.
+-- Why an append fails with this error. A call of the disk failed, or the connection was shut before. A checkpoint with the number exists, the
+-- new one is too long, or no number is left for it. It was out of memory, or SQLite has another reason. An append never gives the refusals
+-- of an open.
 abbrev pub IsCaused : State → State → (has_number is_too_long is_full : Type 0) → StoreError → Type 0
 IsCaused old new has_number is_too_long is_full Foreign = ⊥
 IsCaused old new has_number is_too_long is_full Version = ⊥

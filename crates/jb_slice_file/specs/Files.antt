@@ -17,28 +17,28 @@ use Rattle.sqlite_store.specs.declared.catalog.Wanted.{Wanted}
 use Rattle.sqlite.specs.declared.file.Leftover.{Leftover}
 use Rattle.sqlite.specs.declared.file.Leftover.TheVariants as left
 use Rattle.sqlite.specs.Files.{IsNothing}
-use Rattle.jb_slice_file.specs.Kept.{Kept}
+use Rattle.jb_slice_file.specs.CheckpointBytes.{CheckpointBytes}
 use Rattle.jb_slice_file.specs.Rows.{Has}
 use Rattle.sqlite.specs.Opening.{HoldsAt}
 
--- the files hold this database and, where its pages have sums, each page its own
+-- the files hold this database; if its pages have sums, each page has its own
 abbrev pub HoldsWhole : Image → Trees → Type 0
 HoldsWhole image db = (size : ℕ) × IsPageSize (stored_size size) × HoldsAt size image db
 
 -- the database has the checkpoints of a run so far
-abbrev pub IsOfARun : (so_far : List Kept → Type 0) → Trees → Type 0
-IsOfARun so_far db = (all : List Kept) × Has db all × so_far all
+abbrev pub HasRunCheckpoints : (so_far : List CheckpointBytes → Type 0) → Trees → Type 0
+HasRunCheckpoints so_far db = (all : List CheckpointBytes) × Has db all × so_far all
 
 -- THE FILES HOLD A RUN: a database with the checkpoints of a run so far
-abbrev pub HoldsRun : (so_far : List Kept → Type 0) → Image → Type 0
-HoldsRun so_far image = ∥ ((db : Trees) × HoldsWhole image db × IsOfARun so_far db) ∥₁
+abbrev pub HoldsRun : (so_far : List CheckpointBytes → Type 0) → Image → Type 0
+HoldsRun so_far image = ∥ ((db : Trees) × HoldsWhole image db × HasRunCheckpoints so_far db) ∥₁
 
--- or no database yet, and a run begins with no checkpoint
-abbrev pub HoldsRunOrNone : (so_far : List Kept → Type 0) → Image → Type 0
+-- or they hold no database yet, and a run begins with no checkpoint
+abbrev pub HoldsRunOrNone : (so_far : List CheckpointBytes → Type 0) → Image → Type 0
 HoldsRunOrNone so_far image = HoldsRun so_far image ⊎ (IsNothing image × so_far [])
 
--- The pages to which the files recover are a sound file that reads as these trees. Sums of pages may be missing; and that each table has in
--- the file the number under which the trees have it is said where `is_numbered`.
+-- The pages to which the files recover are a sound file that reads as these trees. Sums of pages may be missing. If `is_numbered`, each table
+-- has the same number in the file as in the trees.
 pub record ReadsAs (is_numbered : Bool) (size : ℕ) (image : Image) (db : Trees) : Type 0 where
   pub stored : Pages
   pub found : log.Recovers (stored_size size) image stored
@@ -51,29 +51,29 @@ pub record ReadsAs (is_numbered : Bool) (size : ℕ) (image : Image) (db : Trees
 abbrev pub HoldsPages : (is_numbered : Bool) → Image → Trees → Type 0
 HoldsPages is_numbered image db = (size : ℕ) × IsPageSize (stored_size size) × ReadsAs is_numbered size image db × ((schema : Schema) × IsSound schema db)
 
--- a run goes on from the files: their pages are those of a run so far, or there is no database yet and a run begins with no checkpoint
-abbrev pub IsResumable : (is_numbered : Bool) (so_far : List Kept → Type 0) → Image → Type 0
-IsResumable is_numbered so_far image = ∥ (((db : Trees) × HoldsPages is_numbered image db × IsOfARun so_far db) ⊎ (IsNothing image × so_far [])) ∥₁
+-- a run resumes from the files: their pages are those of a run so far, or they hold no database yet and a run begins with no checkpoint
+abbrev pub IsResumable : (is_numbered : Bool) (so_far : List CheckpointBytes → Type 0) → Image → Type 0
+IsResumable is_numbered so_far image = ∥ (((db : Trees) × HoldsPages is_numbered image db × HasRunCheckpoints so_far db) ⊎ (IsNothing image × so_far [])) ∥₁
 
--- WHAT OPENS LEAVE THAT WERE CUT: files from which a run goes on
-abbrev pub CanGoOn : (so_far : List Kept → Type 0) → Image → Type 0
+-- WHAT AN INTERRUPTED OPEN LEAVES: files from which a run resumes
+abbrev pub CanGoOn : (so_far : List CheckpointBytes → Type 0) → Image → Type 0
 CanGoOn = IsResumable true
 
--- the same, where an open was cut of which the kit doesn't say that it left the tables their numbers
-abbrev pub MayGoOn : (so_far : List Kept → Type 0) → Image → Type 0
+-- the same after an interrupted open for which the kit doesn't promise that the tables have their numbers
+abbrev pub MayGoOn : (so_far : List CheckpointBytes → Type 0) → Image → Type 0
 MayGoOn = IsResumable false
 
--- whatever a crash leaves of the files, at this moment
+-- this holds for whatever a crash at this moment leaves of the files
 abbrev pub Leaves : {D : Type 0} → Ghosts D → (Image → Type 0) → Files D → Type 0
 Leaves g Holds files = (image : Image) → outcomes g files.log files.db image → Holds image
 
--- a store stands over the files that are left
+-- the files that are left have a store over them
 abbrev pub has_store : {D : Type 0} {g : Ghosts D} → Leftover D g → Bool
 has_store (left.Files files) = false
 has_store (left.Unopened files) = false
 has_store (left.Store it) = true
 
--- what a crash may leave where an open was cut
+-- what a crash may leave after an interrupted open
 abbrev pub LeavesImage : {D : Type 0} {g : Ghosts D} → Leftover D g → Image → Type 0
 LeavesImage {D} {g} (left.Files files) image = outcomes g files.log files.db image
 LeavesImage (left.Unopened files) image = (state_of files).may_leave image

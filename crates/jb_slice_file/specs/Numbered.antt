@@ -1,7 +1,7 @@
 -- Checkpoints as they are found: each with a number and a link.
 use Rattle.std.specs.Prelude.{ℕ, suc, ℤ, pos, ◌≡◌, ◌≢◌, List, [], ◌∷◌, ◌++◌, length}
 use Rattle.jb_slice_file.specs.declared.numbered.Found.{Found}
-use Rattle.jb_slice_file.specs.Kept.{Kept, kept}
+use Rattle.jb_slice_file.specs.CheckpointBytes.{CheckpointBytes, checkpoint_bytes}
 use Rattle.jb_slice_file.specs.Chain.{Linked, chained, last_link, link_of}
 
 -- one with its link, under a number
@@ -10,16 +10,16 @@ pub record Numbered : Type 0 where
   pub linked : Linked
 
 abbrev pub numbered : Found → Numbered
-numbered found = record { number = found.number; linked = record { it = kept found.checkpoint; link = found.link.items } }
+numbered found = record { number = found.number; linked = record { it = checkpoint_bytes found.checkpoint; link = found.link.items } }
 
 -- numbered one after the other, from a number on
 abbrev pub numbered_from : ℕ → List Linked → List Numbered
 numbered_from number [] = []
 numbered_from number (one ∷ more) = record { number = pos number; linked = one } ∷ numbered_from (suc number) more
 
--- THE CHECKPOINT OF THIS NUMBER WAS CHANGED, or one before it: those before it are chained, and it has another link than it must have
+-- THE CHECKPOINT WITH THIS NUMBER, OR ONE BEFORE IT, WAS CHANGED: those before it are chained, and its link isn't the right one
 pub record IsAlteredAt (number : ℕ) (found : List Numbered) : Type 0 where
-  pub front : List Kept
+  pub front : List CheckpointBytes
   pub one : Linked
   pub later : List Numbered
   pub number_is : number ≡ suc (length front)

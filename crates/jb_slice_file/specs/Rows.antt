@@ -1,24 +1,24 @@
--- The list of checkpoints, and the rows that stand for it.
+-- The list of checkpoints, and the rows that hold it.
 use Rattle.std.specs.Prelude.{◌≡◌, ◌≢◌, ◌⊎◌, ◌++◌, ◌≤◌, ◌<◌, ◌+◌, ◌^◌, ℕ, suc, List, [], ◌∷◌, length, pos, IsPermutation}
 use Rattle.sqlite.specs.declared.types.Value.TheVariants.{Null, Int, Text as Words, Blob as Bytes}
 use Rattle.sqlite.specs.Order.{Row}
 use Rattle.sqlite.specs.Tree.{Trees}
 use Rattle.sqlite.specs.Effect.{Database}
 use Rattle.sqlite_catalog.specs.Listing.{IsSound}
-use Rattle.jb_slice_file.specs.Kept.{Kept}
+use Rattle.jb_slice_file.specs.CheckpointBytes.{CheckpointBytes}
 use Rattle.jb_slice_file.specs.Chain.{Linked, chained, last_link, link_of}
 use Rattle.jb_slice_file.specs.Numbered.{Numbered}
-use Rattle.jb_slice_file.specs.Form.{checkpoint_schema, no_schema}
+use Rattle.jb_slice_file.specs.TableSchema.{checkpoint_schema, no_schema}
 
--- the row of a checkpoint: SQLite keeps the number as the row's own, and NULL in the column that stands for it
+-- the row of a checkpoint: SQLite stores the number as the rowid, and NULL in the number's column
 abbrev pub stored : ℕ → Linked → Row
 stored number one = Int (pos number) ∷ Null ∷ Words one.it.saved ∷ Bytes one.it.results ∷ Bytes one.link ∷ []
 
--- and as `SELECT number, saved, results, link` shows it
+-- the row as `SELECT number, saved, results, link` shows it
 abbrev pub shown : ℕ → Linked → Row
 shown number one = Int (pos number) ∷ Words one.it.saved ∷ Bytes one.it.results ∷ Bytes one.link ∷ []
 
--- the same of any number
+-- the same with any integer as the number
 abbrev pub columns_of : Numbered → Row
 columns_of found = Int found.number ∷ Words found.linked.it.saved ∷ Bytes found.linked.it.results ∷ Bytes found.linked.link ∷ []
 
@@ -31,17 +31,17 @@ abbrev pub shown_from : ℕ → List Linked → List Row
 shown_from number [] = []
 shown_from number (one ∷ more) = shown number one ∷ shown_from (suc number) more
 
--- THE TABLE'S ROWS ARE THESE CHECKPOINTS, numbered from 1 on, each with its link, and no others; a table has no order of its own
-abbrev pub AreIn : Trees → List Kept → Type 0
+-- THE TABLE'S ROWS ARE THESE CHECKPOINTS and no others, numbered from 1 on, each with its link, in any order
+abbrev pub AreIn : Trees → List CheckpointBytes → Type 0
 AreIn trees all = IsPermutation (stored_from 1 (chained all)) (trees 0)
 
--- they aren't numbered so, whatever their links are
+-- the rows aren't numbered so, for any links
 abbrev pub HasGap : Trees → Type 0
 HasGap trees = (all : List Linked) → ¬ IsPermutation (stored_from 1 all) (trees 0)
 
--- THE ROW OF THIS NUMBER WAS CHANGED, or one before it: those before it are chained, and it has another link than it must have
+-- THE ROW WITH THIS NUMBER, OR ONE BEFORE IT, WAS CHANGED: those before it are chained, and its link isn't the right one
 pub record IsAltered (number : ℕ) (trees : Trees) : Type 0 where
-  pub front : List Kept
+  pub front : List CheckpointBytes
   pub one : Linked
   pub later : List Row
   pub number_is : number ≡ suc (length front)
@@ -49,27 +49,27 @@ pub record IsAltered (number : ℕ) (trees : Trees) : Type 0 where
   pub rows : IsPermutation (stored_from 1 (chained front ++ one ∷ []) ++ later) (trees 0)
 
 -- one of them has this number
-abbrev pub HasNumber : List Kept → ℕ → Type 0
+abbrev pub HasNumber : List CheckpointBytes → ℕ → Type 0
 HasNumber all number = (1 ≤ number) × (number ≤ length all)
 
--- its row is longer than SQLite's rows may be: a billion bytes, with 18 for each of its five values, and 32 for the link
-abbrev pub IsTooLong : Kept → Type 0
+-- The row is longer than SQLite allows. The limit is a billion bytes, counting 18 for each of the five values and 32 for the link.
+abbrev pub IsTooLong : CheckpointBytes → Type 0
 IsTooLong it = 10 ^ 9 < 122 + length it.saved + length it.results
 
 -- a database of checkpoints, which has these
-pub record HoldsList (db : Database) (all : List Kept) : Type 0 where
+pub record HoldsList (db : Database) (all : List CheckpointBytes) : Type 0 where
   pub schema : db.schema ≡ checkpoint_schema
   pub rows : AreIn db.trees all
 
 -- the same, or nothing is defined yet and there is no checkpoint
-abbrev pub ShowsList : Database → List Kept → Type 0
+abbrev pub ShowsList : Database → List CheckpointBytes → Type 0
 ShowsList db all = HoldsList db all ⊎ ((db.schema ≡ no_schema) × (all ≡ []))
 
 -- what a file holds: it lists this one table, obeys its rules, and has these checkpoints
-pub record StandsFor (db : Trees) (all : List Kept) : Type 0 where
+pub record StandsFor (db : Trees) (all : List CheckpointBytes) : Type 0 where
   pub sound : IsSound checkpoint_schema db
   pub rows : AreIn db all
 
 -- the same, or no table yet, and no checkpoint
-abbrev pub Has : Trees → List Kept → Type 0
+abbrev pub Has : Trees → List CheckpointBytes → Type 0
 Has db all = StandsFor db all ⊎ (IsSound no_schema db × (all ≡ []))

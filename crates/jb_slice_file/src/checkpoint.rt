@@ -1,6 +1,6 @@
-//! What is kept of a stretch of a run.
+//! What is stored for a checkpoint interval.
 
-/// What is kept of a stretch of a run: the text to go on from, and the results that are new since the checkpoint before.
+/// What is stored for a checkpoint interval: the text to resume from, and the results that are new since the checkpoint before.
 #[derive(Debug, Drop)]
 pub struct Checkpoint {
     pub saved: String,

@@ -13,19 +13,19 @@ use thiserror::Error;
 /// Why a call on the checkpoints has no answer. After `Foreign`, `Version`, `Gap` and `Altered` the file is as it was.
 #[derive(Clone, Copy, Debug, PartialEq, Eq, Error)]
 pub enum StoreError {
-    /// The database has tables, and none of them is one of checkpoints.
+    /// The database isn't empty, and it has no table `checkpoint`.
     Foreign,
-    /// It has a table `checkpoint`, but isn't defined as here: by another version, or by another program.
+    /// It has a table `checkpoint`, but another version or another program defined it.
     Version,
     /// The numbers of the checkpoints aren't 1, 2, 3 and so on.
     Gap,
-    /// The checkpoint of this number has another link than it must have: it was changed, or one before it.
+    /// The checkpoint with this number has a wrong link: it was changed, or one before it.
     Altered(u64),
-    /// The file is no database, or a damaged one.
+    /// The file isn't a database, or is damaged.
     Damaged,
     /// Another process has the file open.
     Busy,
-    /// There is no such folder, or no leave to read and to write the file, or the path is no file's.
+    /// The folder doesn't exist, the file may not be read and written, or the path isn't that of a file.
     CannotOpen,
     /// The disk or the file is full.
     Full,
@@ -39,13 +39,13 @@ pub enum StoreError {
     Taken,
     /// There are 4,294,967,295 checkpoints.
     TooMany,
-    /// There was no memory.
+    /// Out of memory.
     Memory,
     /// SQLite refused a statement for another reason.
     Sql(SqlError),
 }
 
-/// What is wrong, in a few words; of a statement that SQLite refused also its own.
+/// A short message. If SQLite refused a statement for another reason, SQLite's message follows.
 impl fmt::Display for StoreError {
     ghost output = { store_error_text };
 

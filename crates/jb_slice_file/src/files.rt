@@ -2,7 +2,7 @@
 
 ghost use Rattle.std.specs.Prelude.{◌≡◌, [], map, IfErr, IfOk, IsTrue};
 ghost use Rattle.jb_slice_file.specs.Rows.{Has, ShowsList};
-ghost use Rattle.jb_slice_file.specs.Kept.{kept};
+ghost use Rattle.jb_slice_file.specs.CheckpointBytes.{checkpoint_bytes};
 ghost use Rattle.jb_slice_file.specs.Connections.{IsJustOpened, Keeps};
 ghost use Rattle.jb_slice_file.specs.Errors.{refusal_named};
 ghost use Rattle.jb_slice_file.specs.Files.{HoldsWhole};
@@ -23,8 +23,8 @@ use sqlite::{Connection, FileFrom, FileStore, Files, Options, Start};
 use sqlite_disk::Disk;
 use std::alloc::Global;
 
-/// The files of a connection that ends: whatever a crash leaves of them holds a database that a crash might have left of it. A crate that
-/// lets a connection over files go in any other way, at the end of a scope too, proves anew how the kit's store is dropped.
+/// The files of a connection that ends. Whatever a crash leaves of them holds a database that a crash might have left of the connection. A crate
+/// that drops a connection over files in any other way, even at the end of a scope, proves again how the kit's store is dropped.
 pub fn closed<D: Disk + Drop>(conn: Connection<FileStore<D>>) -> Files<D>
     ensures clean { AreClean D.Disk result.log result.db → HasCleanDisk (file_state conn) }
     ensures left { AreClean D.Disk result.log result.db → (image : Image) → outcomes D.Disk result.log result.db image
@@ -33,14 +33,14 @@ pub fn closed<D: Disk + Drop>(conn: Connection<FileStore<D>>) -> Files<D>
     conn.into_store().close()
 }
 
-/// The list of a connection that was just opened, and the connection. Where there is none, it is shut.
+/// The list of a connection that was just opened, and the connection. On an error the connection is closed.
 fn with_list<D: Disk + Drop>(
     alloc: Global,
     conn: Connection<FileStore<D>>,
 ) -> Result<(Connection<FileStore<D>>, Vec<Checkpoint>, ListEnd), StoreError>
-    ensures end { IfOk result (λ r. IsEndOf r.2 (map kept r.1.items)) }
+    ensures end { IfOk result (λ r. IsEndOf r.2 (map checkpoint_bytes r.1.items)) }
     ensures taken { IfOk result (λ r. HasCleanDisk (file_state r.0) → HasCleanDisk (file_state conn)
-        × (IsJustOpened (file_state conn) → Keeps (file_state r.0) (map kept r.1.items) × ((all : _) → ShowsList (file_state conn).now all → map kept r.1.items ≡ all))) }
+        × (IsJustOpened (file_state conn) → Keeps (file_state r.0) (map checkpoint_bytes r.1.items) × ((all : _) → ShowsList (file_state conn).now all → map checkpoint_bytes r.1.items ≡ all))) }
 {
     let mut conn = conn;
     match begin(alloc, &mut conn) {
@@ -52,7 +52,7 @@ fn with_list<D: Disk + Drop>(
     }
 }
 
-/// Opens a log and its database file, and takes the list: of an empty file none.
+/// Opens a log and its database file, and takes the list. The list of an empty file is empty.
 pub fn open_files<D: Disk + Drop>(
     alloc: Global,
     files: Files<D>,
@@ -60,10 +60,10 @@ pub fn open_files<D: Disk + Drop>(
 ) -> Result<(Connection<FileStore<D>>, Vec<Checkpoint>, ListEnd), StoreError>
     requires log { IsTrue (D.Disk.is_usable files.log) }
     requires db { IsTrue (D.Disk.is_usable files.db) }
-    ensures end { IfOk result (λ r. IsEndOf r.2 (map kept r.1.items)) }
-    ensures begun { IfOk result (λ r. HasCleanDisk (file_state r.0) → Keeps (file_state r.0) (map kept r.1.items)) }
-    ensures found { IfOk result (λ r. HasCleanDisk (file_state r.0) → (db : _) (all : _) → HoldsDatabase (image_of D.Disk files) db → Has db all → map kept r.1.items ≡ all) }
-    ensures nothing { IfOk result (λ r. HasCleanDisk (file_state r.0) → IsNothing (image_of D.Disk files) → map kept r.1.items ≡ []) }
+    ensures end { IfOk result (λ r. IsEndOf r.2 (map checkpoint_bytes r.1.items)) }
+    ensures begun { IfOk result (λ r. HasCleanDisk (file_state r.0) → Keeps (file_state r.0) (map checkpoint_bytes r.1.items)) }
+    ensures found { IfOk result (λ r. HasCleanDisk (file_state r.0) → (db : _) (all : _) → HoldsDatabase (image_of D.Disk files) db → Has db all → map checkpoint_bytes r.1.items ≡ all) }
+    ensures nothing { IfOk result (λ r. HasCleanDisk (file_state r.0) → IsNothing (image_of D.Disk files) → map checkpoint_bytes r.1.items ≡ []) }
     ensures honest { IfOk result (λ r. HasCleanDisk (file_state r.0) → AreClean D.Disk files.log files.db) }
 {
     match Connection::open_files(alloc, files, options) {
@@ -72,8 +72,8 @@ pub fn open_files<D: Disk + Drop>(
     }
 }
 
-/// A connection to the file at a path, which is made where there is none, and to its log beside it. Its list isn't taken yet, and no
-/// table is made; so it is refused by no name of a list's. A second process gets `Busy`.
+/// A connection to the file at a path and to its log beside it. The file is made if it doesn't exist. The list isn't taken yet, and no table is
+/// made; so `Foreign`, `Version`, `Gap` and `Altered` don't come. A second process gets `Busy`.
 pub fn connect<S: Start>(
     rt: &HostRuntime,
     path: &str,
@@ -96,10 +96,10 @@ pub fn open<S: Start>(
     path: &str,
     start: S,
 ) -> Result<(Connection<FileStore<FileFrom<S>>>, Vec<Checkpoint>, ListEnd), StoreError>
-    ensures end { IfOk result (λ r. IsEndOf r.2 (map kept r.1.items)) }
-    ensures begun { IfOk result (λ r. HasCleanDisk (file_state r.0) → Keeps (file_state r.0) (map kept r.1.items)) }
-    ensures found { IfOk result (λ r. HasCleanDisk (file_state r.0) → (db : _) (all : _) → HoldsDatabase (image_at S.Start) db → Has db all → map kept r.1.items ≡ all) }
-    ensures nothing { IfOk result (λ r. HasCleanDisk (file_state r.0) → IsNothing (image_at S.Start) → map kept r.1.items ≡ []) }
+    ensures end { IfOk result (λ r. IsEndOf r.2 (map checkpoint_bytes r.1.items)) }
+    ensures begun { IfOk result (λ r. HasCleanDisk (file_state r.0) → Keeps (file_state r.0) (map checkpoint_bytes r.1.items)) }
+    ensures found { IfOk result (λ r. HasCleanDisk (file_state r.0) → (db : _) (all : _) → HoldsDatabase (image_at S.Start) db → Has db all → map checkpoint_bytes r.1.items ≡ all) }
+    ensures nothing { IfOk result (λ r. HasCleanDisk (file_state r.0) → IsNothing (image_at S.Start) → map checkpoint_bytes r.1.items ≡ []) }
 {
     let conn = connect(rt, path, start)?;
     with_list(rt.alloc(), conn)

@@ -1,9 +1,9 @@
-//! What the chain of digests tells. Nothing is done here: the clauses are the laws.
+//! What the chain of digests shows. Nothing is done here: the clauses are the laws.
 
-ghost use Rattle.jb_slice_file.specs.ChainLaws.{FrontsAreChained, ListsAreToldByTheirLastLink};
+ghost use Rattle.jb_slice_file.specs.ChainLaws.{FrontsAreChained, LastLinksIdentifyLists};
 
-/// A changed chain is seen, but for its last link; a front of a chain isn't.
-pub fn chains_are_told()
-    ensures changed { ListsAreToldByTheirLastLink }
+/// A change to a chain is seen, unless its last link is changed too. A missing end isn't seen.
+pub fn chains_identify_lists()
+    ensures changed { LastLinksIdentifyLists }
     ensures front { FrontsAreChained }
 {}

@@ -6,11 +6,11 @@ ghost use Rattle.jb_slice_file.specs.ListEnd.{IsAfter, count_of};
 
 use sha2::{Digest, Sha256};
 
-/// Before the first checkpoint.
+/// The link before the first checkpoint.
 pub(crate) const NO_LINK: [u8; 32] = [0; 32];
 
-/// Where the list of a file ends: how many checkpoints it has, and the link of the last one. An open gives it, and each append moves it
-/// on; nothing else does, so that no checkpoint comes under another number than the next one.
+/// Where the list of a file ends: how many checkpoints it has, and the link of the last one. Only an open gives it, and only an append moves it
+/// on. So a checkpoint can only come under the next number.
 #[derive(Clone, Copy, Debug, Drop)]
 pub struct ListEnd {
     pub(crate) count: u64,
@@ -31,14 +31,14 @@ pub(crate) fn link_of(before: &[u8; 32], number: u64, saved: &str, results: &[u8
 }
 
 impl ListEnd {
-    /// So many checkpoints the list has.
+    /// How many checkpoints the list has.
     pub fn count(&self) -> u64
         ensures { result ≡ count_of self.now }
     {
         self.count
     }
 
-    /// The next number, and the end with one checkpoint more; none where there are 4,294,967,295.
+    /// The next number, and the end with one checkpoint more. `None` if there are 4,294,967,295 already.
     pub(crate) fn grown(&self, saved: &str, results: &[u8]) -> Option<(u32, ListEnd)>
         ensures number { IfSome result (λ r. r.0 ≡ count_of self.now + 1) }
         ensures after { IfSome result (λ r. IsAfter self.now r.1 (record { saved = saved.now; results = results.now })) }

@@ -2,10 +2,10 @@
 
 ghost use Rattle.std.specs.Prelude.{◌≡◌, ◌≢◌, ◌⊎◌, ◌≤◌, map, IfOk, IfErr, IsTrue, OnOk};
 ghost use Rattle.jb_slice_file.specs.declared.error.StoreError.TheVariants.{Altered, Foreign, Gap, Version};
-ghost use Rattle.jb_slice_file.specs.Errors.{IsListFault, IsOfTheList};
-ghost use Rattle.jb_slice_file.specs.Form.{checkpoint_schema};
+ghost use Rattle.jb_slice_file.specs.Errors.{IsListFault, IsListRefusal};
+ghost use Rattle.jb_slice_file.specs.TableSchema.{checkpoint_schema};
 ghost use Rattle.jb_slice_file.specs.Rows.{AreIn, HasGap, HoldsList, IsAltered};
-ghost use Rattle.jb_slice_file.specs.Kept.{kept};
+ghost use Rattle.jb_slice_file.specs.CheckpointBytes.{checkpoint_bytes};
 ghost use Rattle.jb_slice_file.specs.Connections.{Keeps};
 ghost use Rattle.jb_slice_file.specs.ListEnd.{IsEndOf};
 ghost use Rattle.sqlite.specs.Held.{state};
@@ -21,22 +21,22 @@ use crate::reading::checkpoints_of;
 use sqlite::{Alter, Connection};
 use std::alloc::Global;
 
-/// All checkpoints in their order, and where they end. `Gap` where the numbers of the rows aren't 1, 2, 3 and so on, and `Altered` where one
-/// has another link than it must have.
+/// All checkpoints in their order, and where they end. `Gap` if the numbers of the rows aren't 1, 2, 3 and so on. `Altered` if one has a
+/// wrong link.
 pub fn list<S: Alter>(
     alloc: Global,
     conn: &mut Connection<S>,
 ) -> Result<(Vec<Checkpoint>, ListEnd), StoreError>
-    ensures rows { HasCleanDisk (state S.Store conn.new) → (all : _) → HoldsList (state S.Store conn.old).now all → IfOk result (λ found. map kept found.0.items ≡ all) }
+    ensures rows { HasCleanDisk (state S.Store conn.new) → (all : _) → HoldsList (state S.Store conn.old).now all → IfOk result (λ found. map checkpoint_bytes found.0.items ≡ all) }
     ensures found { HasCleanDisk (state S.Store conn.new) → (state S.Store conn.old).now.schema ≡ checkpoint_schema → IsSound checkpoint_schema (state S.Store conn.old).now.trees
-        → IfOk result (λ found. AreIn (state S.Store conn.old).now.trees (map kept found.0.items)) }
-    ensures end { IfOk result (λ found. IsEndOf found.1 (map kept found.0.items)) }
+        → IfOk result (λ found. AreIn (state S.Store conn.old).now.trees (map checkpoint_bytes found.0.items)) }
+    ensures end { IfOk result (λ found. IsEndOf found.1 (map checkpoint_bytes found.0.items)) }
     ensures named { IfErr result (λ e. (e ≢ Foreign) × (e ≢ Version)) }
     ensures gap { HasCleanDisk (state S.Store conn.new) → (state S.Store conn.old).now.schema ≡ checkpoint_schema → IfErr result (λ e. e ≡ Gap → HasGap (state S.Store conn.old).now.trees) }
     ensures intact { HasCleanDisk (state S.Store conn.new) → (all : _) → HoldsList (state S.Store conn.old).now all → IfErr result (λ e. (number : _) → e ≢ Altered number) }
     ensures kept { HasCleanDisk (state S.Store conn.new) → (all : _) → Keeps (state S.Store conn.old) all → OnOk result (Keeps (state S.Store conn.new) all) }
     ensures untouched { HasCleanDisk (state S.Store conn.new) → (state S.Store conn.old).now.schema ≡ checkpoint_schema
-        → IfErr result (λ e. IsOfTheList e → (state S.Store conn.new).now ≡ (state S.Store conn.old).now) }
+        → IfErr result (λ e. IsListRefusal e → (state S.Store conn.new).now ≡ (state S.Store conn.old).now) }
     ensures altered { HasCleanDisk (state S.Store conn.new) → (state S.Store conn.old).now.schema ≡ checkpoint_schema → IsSound checkpoint_schema (state S.Store conn.old).now.trees
         → IfErr result (λ e. (number : _) → e ≡ Altered number → IsAltered number (state S.Store conn.old).now.trees) }
     ensures clean { doubt (state S.Store conn.old).is_clean ≤ doubt (state S.Store conn.new).is_clean }

@@ -2,7 +2,7 @@
 
 ghost use Rattle.std.specs.Prelude.{◌≡◌, ◌⊎◌, ◌↔◌, map, pos, IfErr, IfOk, IsTrue};
 ghost use Rattle.jb_slice_file.specs.Chain.{chained};
-ghost use Rattle.jb_slice_file.specs.Kept.{kept};
+ghost use Rattle.jb_slice_file.specs.CheckpointBytes.{checkpoint_bytes};
 ghost use Rattle.jb_slice_file.specs.ListEnd.{IsEndOf};
 ghost use Rattle.jb_slice_file.specs.Numbered.{IsAlteredAt, numbered, numbered_from};
 ghost use Rattle.jb_slice_file.specs.declared.error.StoreError.TheVariants.{Altered, Gap, Memory};
@@ -37,13 +37,13 @@ fn has_link(one: &Found, link: &[u8; 32]) -> bool
     one.link.as_slice() == link.as_slice()
 }
 
-/// The checkpoints, and where they end. They have to be found in the order of their numbers, from 1 on, and each with its link.
+/// The checkpoints, and where they end. They must be found in the order of their numbers, from 1 on, and each with its link.
 pub(crate) fn in_order(
     alloc: Global,
     found: Vec<Found>,
 ) -> Result<(Vec<Checkpoint>, ListEnd), StoreError>
-    ensures list { IfOk result (λ r. map numbered found.items ≡ numbered_from 1 (chained (map kept r.0.items))) }
-    ensures end { IfOk result (λ r. IsEndOf r.1 (map kept r.0.items)) }
+    ensures list { IfOk result (λ r. map numbered found.items ≡ numbered_from 1 (chained (map checkpoint_bytes r.0.items))) }
+    ensures end { IfOk result (λ r. IsEndOf r.1 (map checkpoint_bytes r.0.items)) }
     ensures gap { IfErr result (λ e. e ≡ Gap → (all : _) → map numbered found.items ≡ numbered_from 1 all → ⊥) }
     ensures altered { IfErr result (λ e. (number : _) → e ≡ Altered number → IsAlteredAt number (map numbered found.items)) }
     ensures why { IfErr result (λ e. (e ≡ Gap) ⊎ (((number : _) × (e ≡ Altered number)) ⊎ (e ≡ Memory))) }

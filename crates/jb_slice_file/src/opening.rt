@@ -2,10 +2,10 @@
 
 ghost use Rattle.std.specs.Prelude.{◌≡◌, ◌≢◌, ◌⊎◌, ◌≤◌, ◌↔◌, false, map, [], None, Some, Err, IfOk, IfErr, IsOk, IsTrue, OnOk};
 ghost use Rattle.jb_slice_file.specs.declared.error.StoreError.TheVariants.{Altered, Foreign, Version, Gap};
-ghost use Rattle.jb_slice_file.specs.Errors.{IsStoreFault, IsOfTheList, IsOpenCause};
-ghost use Rattle.jb_slice_file.specs.Form.{checkpoint_schema, no_schema, IsForeign, IsOtherVersion};
+ghost use Rattle.jb_slice_file.specs.Errors.{IsStoreFault, IsListRefusal, IsOpenCause};
+ghost use Rattle.jb_slice_file.specs.TableSchema.{checkpoint_schema, no_schema, IsForeign, IsOtherVersion};
 ghost use Rattle.jb_slice_file.specs.Rows.{Has, HasGap, IsAltered, ShowsList, StandsFor};
-ghost use Rattle.jb_slice_file.specs.Kept.{kept};
+ghost use Rattle.jb_slice_file.specs.CheckpointBytes.{checkpoint_bytes};
 ghost use Rattle.jb_slice_file.specs.Connections.{IsAsItWas, IsJustOpened, Keeps};
 ghost use Rattle.jb_slice_file.specs.ListEnd.{IsEndOf};
 ghost use Rattle.sqlite.specs.Held.{state};
@@ -15,9 +15,9 @@ ghost use Rattle.sqlite_trees.specs.View.{doubt};
 
 use crate::checkpoint::Checkpoint;
 use crate::error::StoreError;
-use crate::form::{is_blank, is_ours, names_checkpoint};
 use crate::list_end::ListEnd;
 use crate::listing::list;
+use crate::table_schema::{is_blank, is_ours, names_checkpoint};
 use sqlite::{Alter, Connection};
 use sqlite_schema::schema::Schema;
 use std::alloc::Global;
@@ -39,12 +39,12 @@ fn refusal_of(schema: &Schema) -> Option<StoreError>
     }
 }
 
-/// Makes the table where nothing is defined yet.
+/// Makes the table if nothing is defined yet.
 fn make<S: Alter>(conn: &mut Connection<S>) -> Result<(), StoreError>
     ensures made { HasCleanDisk (state S.Store conn.new) → (state S.Store conn.old).now.schema ≡ no_schema → (state S.Store conn.old).in_transaction ≡ false
         → OnOk result (Keeps (state S.Store conn.new) []) }
     ensures defined { (state S.Store conn.old).now.schema ≢ no_schema → IsOk result × (conn.new ≡ conn.old) }
-    ensures named { IfErr result (λ e. ¬ IsOfTheList e) }
+    ensures named { IfErr result (λ e. ¬ IsListRefusal e) }
     ensures clean { doubt (state S.Store conn.old).is_clean ≤ doubt (state S.Store conn.new).is_clean }
     ensures crash { HasCleanDisk (state S.Store conn.new) → (state S.Store conn.old).now.schema ≡ no_schema → (db : _) → (state S.Store conn.new).may_leave db
         → (state S.Store conn.old).may_leave db ⊎ StandsFor db [] }
@@ -62,18 +62,18 @@ fn make<S: Alter>(conn: &mut Connection<S>) -> Result<(), StoreError>
     Ok(())
 }
 
-/// The checkpoints of a database that was just opened, and where they end: none where nothing is defined yet, and then the table is made.
-/// One that isn't ours, has a gap or was changed is refused and not written.
+/// The checkpoints of a database that was just opened, and where they end. If nothing is defined yet, there are none, and the table is made.
+/// A database that isn't ours, has a gap or was changed is refused and not written.
 pub fn begin<S: Alter>(
     alloc: Global,
     conn: &mut Connection<S>,
 ) -> Result<(Vec<Checkpoint>, ListEnd), StoreError>
     ensures begun { HasCleanDisk (state S.Store conn.new) → IsJustOpened (state S.Store conn.old)
-        → IfOk result (λ found. Keeps (state S.Store conn.new) (map kept found.0.items) × ShowsList (state S.Store conn.old).now (map kept found.0.items)) }
+        → IfOk result (λ found. Keeps (state S.Store conn.new) (map checkpoint_bytes found.0.items) × ShowsList (state S.Store conn.old).now (map checkpoint_bytes found.0.items)) }
     ensures shown { IsJustOpened (state S.Store conn.old) → (all : _) → Has (state S.Store conn.old).now.trees all → ShowsList (state S.Store conn.old).now all }
     ensures listed { HasCleanDisk (state S.Store conn.new) → IsJustOpened (state S.Store conn.old) → (all : _) → ShowsList (state S.Store conn.old).now all
-        → IfOk result (λ found. map kept found.0.items ≡ all) }
-    ensures end { IfOk result (λ found. IsEndOf found.1 (map kept found.0.items)) }
+        → IfOk result (λ found. map checkpoint_bytes found.0.items ≡ all) }
+    ensures end { IfOk result (λ found. IsEndOf found.1 (map checkpoint_bytes found.0.items)) }
     ensures foreign { (result ≡ Err Foreign) ↔ IsForeign (state S.Store conn.old).now.schema }
     ensures version { (result ≡ Err Version) ↔ IsOtherVersion (state S.Store conn.old).now.schema }
     ensures gap { HasCleanDisk (state S.Store conn.new) → IsJustOpened (state S.Store conn.old) → result ≡ Err Gap
@@ -82,12 +82,12 @@ pub fn begin<S: Alter>(
         → ((state S.Store conn.old).now.schema ≡ checkpoint_schema) × IsAltered number (state S.Store conn.old).now.trees }
     ensures cause { HasCleanDisk (state S.Store conn.new) → IsJustOpened (state S.Store conn.old) → IfErr result (IsOpenCause (state S.Store conn.old) (state S.Store conn.new)) }
     ensures own { HasCleanDisk (state S.Store conn.new) → IsJustOpened (state S.Store conn.old) → (all : _) → ShowsList (state S.Store conn.old).now all
-        → IfErr result (λ e. ¬ IsOfTheList e) }
+        → IfErr result (λ e. ¬ IsListRefusal e) }
     ensures counts { (state S.Store conn.old).faults ≤ (state S.Store conn.new).faults }
     ensures shut { HasCleanDisk (state S.Store conn.new) → IsTrue (state S.Store conn.old).is_open
         → IsTrue (state S.Store conn.new).is_open ⊎ MoreFaults (state S.Store conn.old).faults (state S.Store conn.new).faults }
     ensures untouched { HasCleanDisk (state S.Store conn.new) → IsJustOpened (state S.Store conn.old)
-        → IfErr result (λ e. IsOfTheList e → IsAsItWas (state S.Store conn.old) (state S.Store conn.new)) }
+        → IfErr result (λ e. IsListRefusal e → IsAsItWas (state S.Store conn.old) (state S.Store conn.new)) }
     ensures clean { doubt (state S.Store conn.old).is_clean ≤ doubt (state S.Store conn.new).is_clean }
     ensures crash { HasCleanDisk (state S.Store conn.new) → IsJustOpened (state S.Store conn.old) → (db : _) → (state S.Store conn.new).may_leave db
         → (db ≡ (state S.Store conn.old).now.trees) ⊎ (((state S.Store conn.old).now.schema ≡ no_schema) × StandsFor db []) }
@@ -101,7 +101,7 @@ pub fn begin<S: Alter>(
     list(alloc, conn)
 }
 
-/// Nothing is defined in the database, or a table of checkpoints is: `begin` refuses it neither as another program's nor as another version's.
+/// Whether the database has nothing defined, or just the table of checkpoints. Then `begin` gives neither `Foreign` nor `Version`.
 pub fn takes<S: Alter>(conn: &Connection<S>) -> bool
     ensures { IsTrue result ↔ (((state S.Store conn.now).now.schema ≡ no_schema) ⊎ ((state S.Store conn.now).now.schema ≡ checkpoint_schema)) }
 {

@@ -3,7 +3,7 @@
 ghost use Rattle.std.specs.Prelude.{◌≡◌, ◌≢◌, ◌⊎◌, length, map, IfOk, IfErr};
 ghost use Rattle.std.specs.List.{AllByRecursion};
 ghost use Rattle.jb_slice_file.specs.Chain.{chained};
-ghost use Rattle.jb_slice_file.specs.Kept.{kept};
+ghost use Rattle.jb_slice_file.specs.CheckpointBytes.{checkpoint_bytes};
 ghost use Rattle.jb_slice_file.specs.ListEnd.{IsEndOf};
 ghost use Rattle.jb_slice_file.specs.Numbered.{IsAlteredAt, numbered};
 ghost use Rattle.jb_slice_file.specs.Rows.{columns_of, shown_from};
@@ -32,7 +32,7 @@ fn found_of(row: &Row) -> Result<Found, StoreError>
     })
 }
 
-/// Those of all rows.
+/// The checkpoints of all rows, with their numbers and links.
 fn all_found(alloc: Global, rows: &[Row]) -> Result<Vec<Found>, StoreError>
     ensures read { AllByRecursion (λ row. length row ≡ 4) rows.now → IfOk result (λ found. rows.now ≡ map columns_of (map numbered found.items)) }
     ensures why { IfErr result (λ e. (e ≡ Memory) ⊎ ((why : _) × (e ≡ Sql why))) }
@@ -44,13 +44,13 @@ fn all_found(alloc: Global, rows: &[Row]) -> Result<Vec<Found>, StoreError>
     Ok(found)
 }
 
-/// The checkpoints of all rows, and where they end. They have to be numbered from 1 on, and each must have its link.
+/// The checkpoints of all rows, and where they end. They must be numbered from 1 on, and each must have its link.
 pub(crate) fn checkpoints_of(
     alloc: Global,
     rows: &[Row],
 ) -> Result<(Vec<Checkpoint>, ListEnd), StoreError>
-    ensures read { AllByRecursion (λ row. length row ≡ 4) rows.now → IfOk result (λ r. rows.now ≡ shown_from 1 (chained (map kept r.0.items))) }
-    ensures end { IfOk result (λ r. IsEndOf r.1 (map kept r.0.items)) }
+    ensures read { AllByRecursion (λ row. length row ≡ 4) rows.now → IfOk result (λ r. rows.now ≡ shown_from 1 (chained (map checkpoint_bytes r.0.items))) }
+    ensures end { IfOk result (λ r. IsEndOf r.1 (map checkpoint_bytes r.0.items)) }
     ensures named { IfErr result (λ e. (e ≢ Foreign) × (e ≢ Version)) }
     ensures gap { (all : _) → rows.now ≡ shown_from 1 all → IfErr result (λ e. e ≢ Gap) }
     ensures altered { AllByRecursion (λ row. length row ≡ 4) rows.now → IfErr result (λ e. (number : _) → e ≡ Altered number

@@ -14,8 +14,8 @@ use crate::error::StoreError;
 use crate::list_end::ListEnd;
 use sqlite::{Alter, Connection, params};
 
-/// Adds a checkpoint at the end of a list, and moves the end on. It is one commit. Where it answers Ok a crash leaves the new list; else the
-/// old one or, if the disk failed in the commit, the new one.
+/// Adds a checkpoint at the end of a list, and moves the end on. It is one commit. After an Ok a crash leaves the new list. After an error a crash
+/// leaves the old list or, if the disk failed in the commit, the new one.
 pub fn append<S: Alter>(
     conn: &mut Connection<S>,
     end: &mut ListEnd,

@@ -1,9 +1,9 @@
 //! The machine stops, and what it leaves.
 
 ghost use Rattle.std.specs.Prelude.{◌≡◌, ◌&&◌, ◌||◌, not, Bool, false, true, IfSome, IsTrue};
-ghost use Rattle.jb_slice_file.specs.Files.{HoldsRun, IsOfARun, Leaves};
-ghost use Rattle.jb_slice_file.specs.Watching.{AreGiven};
-ghost use Rattle.jb_slice_file.specs.Watched.{disk_of, has_written};
+ghost use Rattle.jb_slice_file.specs.Files.{HoldsRun, HasRunCheckpoints, Leaves};
+ghost use Rattle.jb_slice_file.specs.DiskHistory.{IsHistoryOf};
+ghost use Rattle.jb_slice_file.specs.RecordingDisk.{disk_of, has_written};
 ghost use Rattle.sqlite.specs.Files.{file_state};
 ghost use Rattle.sqlite.specs.State.{HasCleanDisk};
 ghost use Rattle.sqlite_trees.specs.Tree.{Trees};
@@ -12,24 +12,24 @@ ghost use Rattle.sqlite_wal.specs.Reads.{AreClean};
 ghost use Rattle.sqlite_wal.specs.Recovery.{Image};
 
 use crate::files::closed;
-use crate::watched::{Given, Watched};
+use crate::recording_disk::{DiskHistory, RecordingDisk};
 use sqlite::{Connection, FileStore};
 use sqlite_disk::{Crash, Disk, Files};
 
-/// What a life leaves.
+/// What a process run leaves.
 #[derive(Drop)]
-pub struct Life<D: Disk> {
+pub struct ProcessRun<D: Disk> {
     pub files: Files<D>,
-    /// The files were opened, and the work was taken up; else the open failed or was cut.
+    /// The files were opened, and the work ran. If not, the open failed or was interrupted.
     pub has_run: bool,
-    /// The open had written, and was cut behind its recovery, while it read the schema. The files then read as they did, and whether their
-    /// tables have the numbers that they had isn't known.
+    /// The open had written, and was interrupted after its recovery, while it read the schema. The files then read as they did. But it isn't known
+    /// whether their tables have the numbers that they had.
     pub is_loose: bool,
 }
 
-impl<D: Disk> Life<D> {
-    /// Whether the tables are known to have their numbers in what this life leaves, where `was_sure` says it of what it had. None where it wasn't
-    /// known before it, and the life lost it again.
+impl<D: Disk> ProcessRun<D> {
+    /// Whether the tables are known to have their numbers in what this process run leaves. `was_sure` says whether that was known of what it
+    /// began with. `None` if it wasn't known before, and this run is loose too.
     pub fn sure_after(&self, was_sure: bool) -> Option<bool>
         ensures known { IfSome result (λ _. (self.now.is_loose && not was_sure) ≡ false) }
         ensures sure { IfSome result (λ is_sure. is_sure ≡ (self.now.has_run || (was_sure && not self.now.is_loose))) }
@@ -53,14 +53,14 @@ pub(crate) fn crash<D: Crash>(mut files: Files<D>) -> Files<D>
 }
 
 /// Disks that know what these two are now.
-pub(crate) fn watch<D: Disk, G: Given>(files: Files<D>) -> Files<Watched<D, G>>
-    requires { AreGiven D.Disk G.Given.was_clean G.Given.could_leave files }
+pub(crate) fn with_history<D: Disk, G: DiskHistory>(files: Files<D>) -> Files<RecordingDisk<D, G>>
+    requires { IsHistoryOf D.Disk G.DiskHistory.was_clean G.DiskHistory.could_leave files }
     ensures log { disk_of result.log ≡ files.log }
     ensures db { disk_of result.db ≡ files.db }
 {
     Files {
-        log: Watched::new(files.log, true),
-        db: Watched::new(files.db, false),
+        log: RecordingDisk::new(files.log, true),
+        db: RecordingDisk::new(files.db, false),
     }
 }
 
@@ -70,15 +70,15 @@ fn are_in_place(first_is_log: bool, second_is_log: bool) -> bool
     first_is_log && !second_is_log
 }
 
-/// The two disks themselves, and whether something was written to one of them since; none where they have changed their places.
-pub(crate) fn unwatch<D: Disk + Drop, G: Given>(
-    files: Files<Watched<D, G>>,
+/// The two disks themselves, and whether something was written to one of them since. `None` if they have changed places.
+pub(crate) fn without_history<D: Disk + Drop, G: DiskHistory>(
+    files: Files<RecordingDisk<D, G>>,
 ) -> Option<(Files<D>, bool)>
     ensures log { IfSome result (λ r. r.0.log ≡ disk_of files.log) }
     ensures db { IfSome result (λ r. r.0.db ≡ disk_of files.db) }
-    ensures clean { IfSome result (λ r. AreClean D.Disk r.0.log r.0.db → (is_log : Bool) → IsTrue (G.Given.was_clean is_log)) }
+    ensures clean { IfSome result (λ r. AreClean D.Disk r.0.log r.0.db → (is_log : Bool) → IsTrue (G.DiskHistory.was_clean is_log)) }
     ensures left { IfSome result (λ r. r.1 ≡ false → (image : Image) → outcomes D.Disk r.0.log r.0.db image
-        → ∥ G.Given.could_leave true image.log × G.Given.could_leave false image.db ∥₁) }
+        → ∥ G.DiskHistory.could_leave true image.log × G.DiskHistory.could_leave false image.db ∥₁) }
 {
     let Files { log, db } = files;
     if !are_in_place(log.is_log(), db.is_log()) {
@@ -94,19 +94,19 @@ pub(crate) fn unwatch<D: Disk + Drop, G: Given>(
     ))
 }
 
-/// A life ends while its connection is open.
-pub fn stop_watched<D: Crash + Drop, G: Given>(
-    conn: Connection<FileStore<Watched<D, G>>>,
-) -> Option<Life<D>>
-    ensures ran { IfSome result (λ life. (life.has_run ≡ true) × (life.is_loose ≡ false)) }
-    ensures usable { IfSome result (λ life. IsTrue (D.Disk.is_usable life.files.log) × IsTrue (D.Disk.is_usable life.files.db)) }
-    ensures clean { IfSome result (λ life. AreClean D.Disk life.files.log life.files.db → (is_log : Bool) → IsTrue (G.Given.was_clean is_log)) }
-    ensures open { IfSome result (λ life. AreClean D.Disk life.files.log life.files.db → HasCleanDisk (file_state conn)) }
-    ensures run { IfSome result (λ life. AreClean D.Disk life.files.log life.files.db
-        → ((db : Trees) → (file_state conn).may_leave db → IsOfARun G.Given.is_so_far db) → Leaves D.Disk (HoldsRun G.Given.is_so_far) life.files) }
+/// A process run ends while its connection is open.
+pub fn stop_recording<D: Crash + Drop, G: DiskHistory>(
+    conn: Connection<FileStore<RecordingDisk<D, G>>>,
+) -> Option<ProcessRun<D>>
+    ensures ran { IfSome result (λ process_run. (process_run.has_run ≡ true) × (process_run.is_loose ≡ false)) }
+    ensures usable { IfSome result (λ process_run. IsTrue (D.Disk.is_usable process_run.files.log) × IsTrue (D.Disk.is_usable process_run.files.db)) }
+    ensures clean { IfSome result (λ process_run. AreClean D.Disk process_run.files.log process_run.files.db → (is_log : Bool) → IsTrue (G.DiskHistory.was_clean is_log)) }
+    ensures open { IfSome result (λ process_run. AreClean D.Disk process_run.files.log process_run.files.db → HasCleanDisk (file_state conn)) }
+    ensures run { IfSome result (λ process_run. AreClean D.Disk process_run.files.log process_run.files.db
+        → ((db : Trees) → (file_state conn).may_leave db → HasRunCheckpoints G.DiskHistory.is_so_far db) → Leaves D.Disk (HoldsRun G.DiskHistory.is_so_far) process_run.files) }
 {
-    let (files, _) = unwatch(closed(conn))?;
-    Some(Life {
+    let (files, _) = without_history(closed(conn))?;
+    Some(ProcessRun {
         files: crash(files),
         has_run: true,
         is_loose: false,

@@ -2,16 +2,16 @@
 use Rattle.std.proofs.Common.{ℕ, ◌≡◌, true, true≢false, List, [], ◌∷◌, length, inl, inr, refl, sym, ap, ◌∙◌, arith}
 use Rattle.std.proofs.lemmas.List.{length-map}
 use Rattle.std.proofs.lemmas.List.FromFn.{length-map-range_with_len}
-use Rattle.jb_slice_file.specs.Kept.{Kept}
+use Rattle.jb_slice_file.specs.CheckpointBytes.{CheckpointBytes}
 use Rattle.jb_mapper.specs.EvenCover.{even_range, even_ranges}
 use Rattle.jb_rules.specs.Rows.{range_of}
 use Rattle.jb_slices.specs.Checkpoint.{Begins, Checkpoint, GoesOn, Header, Progress, header_of}
 use Rattle.jb_slices.specs.Job.{HaveInCommon, Job}
 use Rattle.jb_slices.specs.Partitions.{grown}
-use Rattle.jb_slices.specs.Slice.{Follow, Functions, IsSliceSoFar, Place, next, start}
+use Rattle.jb_slices.specs.Slice.{Follow, Functions, IsSliceSoFar, SliceState, next, start}
 use Rattle.jb_slice_run.specs.Held.{AreIntervalsOf}
-use Rattle.jb_slice_run.specs.Kept.{AreKeptAs}
-use Rattle.jb_slice_run.specs.Laws.{BeginsWithHeader, OwnSlicesAreTakenUp, SlicesBeginWithHeaders}
+use Rattle.jb_slice_run.specs.SliceBytes.{AreStoredAs}
+use Rattle.jb_slice_run.specs.Laws.{BeginsWithHeader, OwnSlicesResume, SlicesBeginWithHeaders}
 use Rattle.jb_slice_run.specs.Refusals.{IsHeaderCause, part_of}
 use Rattle.jb_slice_run.specs.declared.error.IdentityPart.{IdentityPart}
 use Rattle.jb_slice_run.specs.declared.error.IdentityPart.TheVariants.{Classes, ItemCount, Name, Partitions, SliceLength}
@@ -29,7 +29,7 @@ grown_length (p ∷ ps) [] = refl
 grown_length (p ∷ ps) (q ∷ qs) = let more = grown_length ps qs in omega (arith, more)
 
 module _ (job : Job) (functions : Functions) (number : ℕ) (items : List (List ℕ)) where
-  intervals_follow : (at : Place) (cs : List Checkpoint) → at.begun ≡ true → Follow job functions number items at cs → AreIntervalsOf job.partitions cs
+  intervals_follow : (at : SliceState) (cs : List Checkpoint) → at.begun ≡ true → Follow job functions number items at cs → AreIntervalsOf job.partitions cs
   intervals_follow at [] begun so = tt
   intervals_follow at (Begins h ∷ cs) begun so = absurd (true≢false (sym begun ∙ so.0.first))
   intervals_follow at (GoesOn i ∷ cs) begun so =
@@ -37,7 +37,7 @@ module _ (job : Job) (functions : Functions) (number : ℕ) (items : List (List 
       let rows = length-map (grown at.partitions i.partitions) (λ (p : Progress). range_of p.row) in
       (sym (grown_length at.partitions i.partitions) ∙ sym rows ∙ ranges, intervals_follow (next at (GoesOn i)) cs begun so.1)
 
-  begins : (cs : List Checkpoint) (first : Kept) (later : List Kept) → AreKeptAs cs (first ∷ later) → IsSliceSoFar job functions number items cs → BeginsWithHeader job functions number items first later
+  begins : (cs : List Checkpoint) (first : CheckpointBytes) (later : List CheckpointBytes) → AreStoredAs cs (first ∷ later) → IsSliceSoFar job functions number items cs → BeginsWithHeader job functions number items first later
   begins [] first later kept so = absurd kept
   begins (GoesOn i ∷ cs) first later kept so = absurd (true≢false (sym so.0.begun))
   begins (Begins h ∷ cs) first later kept so = record {
@@ -51,7 +51,7 @@ module _ (job : Job) (functions : Functions) (number : ℕ) (items : List (List 
   }
 
 pub begins_with_header : SlicesBeginWithHeaders
-begins_with_header job functions number items first later keeps = begins job functions number items keeps.checkpoints first later keeps.kept_as keeps.so_far
+begins_with_header job functions number items first later keeps = begins job functions number items keeps.checkpoints first later keeps.stored_as keeps.so_far
 
 -- ---- and it is our own
 
@@ -73,7 +73,7 @@ refused_by own stamps held Damaged job number digest items cause = absurd cause
 refused_by own stamps held TooLong job number digest items cause = absurd cause
 refused_by own stamps held Memory job number digest items cause = absurd cause
 
-pub own_slices : OwnSlicesAreTakenUp
+pub own_slices : OwnSlicesResume
 own_slices job functions number items first later limits stamp stamps e begins cause =
     let is = begins.header_is in
     refused_by (header_of job limits stamp number items) stamps begins.header e (ap (λ (h : Header). h.job) is) (ap (λ (h : Header). h.number) is) (ap (λ (h : Header). h.digest) is)

@@ -9,7 +9,7 @@ use Rattle.std.proofs.lemmas.List.{append-nil, get_or-take, get_or_past, length-
 use Rattle.jb_base.specs.Limits.{max_classes}
 use Rattle.jb_slices.specs.Function.{Fault}
 use Rattle.jb_slice_run.specs.Held.{fault_in, one_grown}
-use Rattle.jb_slice_run.specs.Strings.{IsSmall, News, fault_string, number_string}
+use Rattle.jb_slice_run.specs.Strings.{IsSmall, NewOutput, fault_string, number_string}
 use Rattle.jb_slice_run.specs.declared.fault.Fault.{Fault as HeldFault}
 use Rattle.jb_slice_run.proofs.Once.{number_length}
 
@@ -83,8 +83,8 @@ pub some_small : (stop : Option HeldFault) → ForSome stop (λ (f : HeldFault).
 some_small None small fault is = let none : ⊥ = cc in absurd none
 some_small (Some held) small fault is = let same : fault_in held ≡ fault = cc in subst (λ (f : Fault). IsSmall f.number) same (small held refl)
 
-pub put_together : (results : List (List ℕ)) (skips : List Fault) (stop : Option Fault) (before new : News) → results ≡ before.results ++ new.results → skips ≡ before.skips ++ new.skips → stop ≡ new.stop
-    → ◌≡◌ {A = News} (record { results = results; skips = skips; stop = stop }) (one_grown before new)
+pub put_together : (results : List (List ℕ)) (skips : List Fault) (stop : Option Fault) (before new : NewOutput) → results ≡ before.results ++ new.results → skips ≡ before.skips ++ new.skips → stop ≡ new.stop
+    → ◌≡◌ {A = NewOutput} (record { results = results; skips = skips; stop = stop }) (one_grown before new)
 put_together results skips stop before new r s t =
     ap (λ (x : List (List ℕ)). record { results = x; skips = skips; stop = stop }) r
     ∙ ap (λ (x : List Fault). record { results = before.results ++ new.results; skips = x; stop = stop }) s

@@ -69,15 +69,15 @@ module _ {A : Type 0} (f : A → List ℕ) (xs : List A) (i : ℕ) (d : A) (s te
 pub limits_told : (r : Result SliceLimits SliceError) (list : List (List ℕ)) (l : Limits) → list ≡ limits_list l → AreLimitsSmall l
     → MatchResult r (λ limits. (list ≡ limits_list (limits_in limits)) × AreLimitsSmall (limits_in limits)) (λ e. (e ≡ Damaged) × ((limits : Limits) → list ≡ limits_list limits → ⊥))
     → MatchResult r (λ limits. limits_in limits ≡ l) (λ e. ⊥)
-limits_told (Ok limits) list l is small told = limits_once (limits_in limits) l told.1 small (sym told.0 ∙ is)
-limits_told (Err e) list l is small told = told.1 l is
+limits_told (Ok limits) list l is small agrees = limits_once (limits_in limits) l agrees.1 small (sym agrees.0 ∙ is)
+limits_told (Err e) list l is small agrees = agrees.1 l is
 
 -- ---- what a test told
 
 pub told_so : (b : Bool) (P Q : Type 0) → MatchBool b P Q → b ≡ true → P
-told_so true P Q told e = told
-told_so false P Q told e = absurd (true≢false (sym e))
+told_so true P Q agrees e = agrees
+told_so false P Q agrees e = absurd (true≢false (sym e))
 
 pub told_not : (b : Bool) (P Q : Type 0) → MatchBool b P Q → b ≡ false → Q
-told_not true P Q told e = absurd (true≢false e)
-told_not false P Q told e = told
+told_not true P Q agrees e = absurd (true≢false e)
+told_not false P Q agrees e = agrees

@@ -26,8 +26,8 @@ use Rattle.jb_slices.specs.Example.{class_five, example_job, fault_of_nine, limi
 use Rattle.jb_slices.specs.Function.{Fault, Pass}
 use Rattle.jb_slices.specs.Job.{rules_of}
 use Rattle.jb_slices.specs.Slice.{IsSliceSoFar}
-use Rattle.jb_slice_run.specs.Example.{SomeAreKept, failed_header, failed_interval, failed_partitions, failed_rows, two}
-use Rattle.jb_slice_run.specs.Strings.{AreLimitsSmall, AreNewsSmall, IsHeaderSmall, IsSmall, all_news, header_lists, interval_lists, number_string}
+use Rattle.jb_slice_run.specs.Example.{SomeAreStored, failed_header, failed_interval, failed_partitions, failed_rows, two}
+use Rattle.jb_slice_run.specs.Strings.{AreLimitsSmall, AreOutputsSmall, IsHeaderSmall, IsSmall, all_new_output, header_lists, interval_lists, number_string}
 
 -- ---- the slice
 
@@ -135,10 +135,10 @@ some_once fault is = cc
 fault_small : ForSome (Some fault_of_nine) (λ (fault : Fault). IsSmall fault.number)
 fault_small fault is = let one : fault.number ≡ 1 = ap (λ (f : Fault). f.number) (sym (some_once fault is)) in omega (arith, one)
 
-news_small : AreNewsSmall (all_news failed_partitions)
-news_small = (record { skips = tt; stop = fault_small }, tt)
+new_output_small : AreOutputsSmall (all_new_output failed_partitions)
+new_output_small = (record { skips = tt; stop = fault_small }, tt)
 
-interval_codable : AreCodable (interval_lists (limits_of 0) (all_news failed_partitions))
+interval_codable : AreCodable (interval_lists (limits_of 0) (all_new_output failed_partitions))
 unfolding number_string
 interval_codable = (
   record { few = omega arith; short = (omega arith, (omega arith, (omega arith, tt))) },
@@ -198,15 +198,15 @@ text_utf8 = refl
 utf8 : IsUtf8 (compact_text (saved_tree failed_rows))
 utf8 = IsUtf8-from_is_utf8 (compact_text (saved_tree failed_rows)) (ap is_utf8 text_is ∙ text_utf8)
 
-pub some_kept : TextIsRead → TreeIsRead → SomeAreKept
+pub some_kept : TextIsRead → TreeIsRead → SomeAreStored
 some_kept text tree = record {
   checkpoints = Begins failed_header ∷ GoesOn failed_interval ∷ [];
-  kept_as = (
+  stored_as = (
     record { small = header_small; text = refl; lists = record { codable = header_codable; coding = refl; number = refl } },
     (
       record {
         small = limits_small;
-        news_small = news_small;
+        new_output_small = new_output_small;
         held = failed_rows;
         read = ap answer_of (tree_of-read (compact_text (saved_tree failed_rows)) (saved_tree failed_rows) utf8 (text failed_rows saved)) ∙ tree failed_rows saved;
         rows = refl;

@@ -12,7 +12,7 @@ use Rattle.jb_records.specs.FollowingLaws.{StoppedRowsDont}
 use Rattle.jb_records.specs.Function.{steady}
 use Rattle.jb_records.specs.Skips.{skip_by, skips_between}
 use Rattle.jb_slices.specs.Function.{Fault, Function, refusal_of}
-use Rattle.jb_slice_run.specs.News.{CanGrow, IsStopTold, from_of, skipped_before}
+use Rattle.jb_slice_run.specs.NewOutput.{CanGrow, IsStopOfPartition, from_of, skipped_before}
 use Rattle.jb_slice_run.specs.Rows.{fault_at, faults_at}
 use Rattle.jb_slice_run.proofs.RowItems.{skips-on}
 
@@ -70,13 +70,13 @@ module _ (f : Function) (first : ℕ) (items : List (List ℕ)) where
   -- the items up to the checkpoint are there
   -- ---- the fault by which it failed
 
-  pub stop-told : StoppedRowsDont → (rules : RulesRecord) (row : Row) (note : Option Note) (fault : Option Fault) → FollowsRules (steady f) rules items row → row.hi ≤ length items
-      → IsStopOf (steady f) rules items row note → MatchOption note (fault ≡ None) (λ n. n.number < length items → fault ≡ option_map (fault_at first) note) → IsStopTold f rules first items row fault
-  stop-told law rules row None fault follows within of told = record {
+  pub stop-agrees : StoppedRowsDont → (rules : RulesRecord) (row : Row) (note : Option Note) (fault : Option Fault) → FollowsRules (steady f) rules items row → row.hi ≤ length items
+      → IsStopOf (steady f) rules items row note → MatchOption note (fault ≡ None) (λ n. n.number < length items → fault ≡ option_map (fault_at first) note) → IsStopOfPartition f rules first items row fault
+  stop-agrees law rules row None fault follows within of agrees = record {
     stop = None;
-    stop_is = told;
+    stop_is = agrees;
     named = λ failed. (let by = follows.failed failed in absurd (law (steady f) rules items row by.0 by.1 of));
   }
-  stop-told law rules row (Some note) fault follows within of told =
+  stop-agrees law rules row (Some note) fault follows within of agrees =
       let to = of.to in
-      record { stop = Some note; stop_is = told (omega (arith, to, within)); named = λ failed. (note, refl, of) }
+      record { stop = Some note; stop_is = agrees (omega (arith, to, within)); named = λ failed. (note, refl, of) }

@@ -5,31 +5,31 @@ use Rattle.std.proofs.lemmas.List.{drop_all, drop_more, length-map}
 use Rattle.jb_rules.specs.Rows.{range_of}
 use Rattle.jb_rules.specs.States.{is_failed}
 use Rattle.jb_rules.specs.declared.row.Row.{Row}
-use Rattle.jb_records.specs.Stretches.{RunState}
-use Rattle.jb_slice_file.specs.Kept.{Kept}
+use Rattle.jb_records.specs.Intervals.{RunState}
+use Rattle.jb_slice_file.specs.CheckpointBytes.{CheckpointBytes}
 use Rattle.jb_slices.specs.Checkpoint.{Progress}
-use Rattle.jb_slices.specs.Failures.{Failure, failure_and, failures_from}
+use Rattle.jb_slices.specs.Failures.{PartitionFailure, failure_and, failures_from}
 use Rattle.jb_slices.specs.Function.{Fault, Function}
 use Rattle.jb_slices.specs.Job.{Job, Limits}
 use Rattle.jb_slices.specs.Partitions.{joined_skips}
-use Rattle.jb_slices.specs.Slice.{Functions, place_of}
+use Rattle.jb_slices.specs.Slice.{Functions, slice_state}
 use Rattle.jb_slice_run.specs.Held.{faults_in}
 use Rattle.jb_slice_run.specs.Named.{AreNamed, Faults, HoldsFaults, failure_in, failures_by, faults_by, skips_by}
 use Rattle.jb_slice_run.specs.Rows.{rows_in}
-use Rattle.jb_slice_run.specs.Strings.{all_news, news_of}
-use Rattle.jb_slice_run.specs.Work.{IsUnderway}
+use Rattle.jb_slice_run.specs.Strings.{all_new_output, new_output_of}
+use Rattle.jb_slice_run.specs.Work.{HasIntervals}
 use Rattle.jb_slice_run.specs.declared.named.SliceFaults.{SliceFaults}
 use Rattle.jb_slice_run.proofs.Beginning.{even_length}
 use Rattle.jb_slice_run.proofs.Working.{again-length}
 
 -- ---- one partition after the other
 
-apart : (partition : ℕ) (row : Row) (failed : Bool) (stop : Option Fault) (later : List Failure) → failure_and partition row failed stop [] ++ later ≡ failure_and partition row failed stop later
+apart : (partition : ℕ) (row : Row) (failed : Bool) (stop : Option Fault) (later : List PartitionFailure) → failure_and partition row failed stop [] ++ later ≡ failure_and partition row failed stop later
 apart partition row true (Some fault) later = refl
 apart partition row true None later = refl
 apart partition row false stop later = refl
 
-pub next_failure : (i : ℕ) (rows : List Row) (faults : List Faults) (d : Row) (n : Faults) (before now all : List Failure) → i < length rows → i < length faults → n ≡ get_or faults i n
+pub next_failure : (i : ℕ) (rows : List Row) (faults : List Faults) (d : Row) (n : Faults) (before now all : List PartitionFailure) → i < length rows → i < length faults → n ≡ get_or faults i n
     → now ≡ before ++ failure_and i (get_or rows i d) (is_failed (get_or rows i d).state) n.stop [] → before ++ failures_by i (drop i rows) (drop i faults) ≡ all
     → now ++ failures_by (i + 1) (drop (i + 1) rows) (drop (i + 1) faults) ≡ all
 next_failure i rows faults d n before now all here there is put are =
@@ -63,30 +63,30 @@ past_one rows partitions faults i least is past same = elim (cases_lt rows parti
 
 -- ---- all of them
 
-skips_are : (ps : List Progress) → skips_by (map faults_by (all_news ps)) ≡ joined_skips ps
+skips_are : (ps : List Progress) → skips_by (map faults_by (all_new_output ps)) ≡ joined_skips ps
 skips_are [] = refl
 skips_are (p ∷ ps) = ap (λ rest. p.skips ++ rest) (skips_are ps)
 
-failures_are : (partition : ℕ) (ps : List Progress) → failures_by partition (rows_in ps) (map faults_by (all_news ps)) ≡ failures_from partition ps
+failures_are : (partition : ℕ) (ps : List Progress) → failures_by partition (rows_in ps) (map faults_by (all_new_output ps)) ≡ failures_from partition ps
 failures_are partition [] = refl
 failures_are partition (p ∷ ps) = ap (λ rest. failure_and partition p.row (is_failed p.row.state) p.stop rest) (failures_are (suc partition) ps)
 
-module _ (job : Job) (functions : Functions) (f : Function) (limits : Limits) (number : ℕ) (items : List (List ℕ)) (s : RunState) (rows : List Row) (all : List Kept)
-    (at : IsUnderway job functions f limits number items s rows all) (held : List Faults) (holds : HoldsFaults held all) where
+module _ (job : Job) (functions : Functions) (f : Function) (limits : Limits) (number : ℕ) (items : List (List ℕ)) (s : RunState) (rows : List Row) (all : List CheckpointBytes)
+    (at : HasIntervals job functions f limits number items s rows all) (held : List Faults) (holds : HoldsFaults held all) where
   abbrev ps : List Progress
-  ps = (place_of at.checkpoints).partitions
+  ps = (slice_state at.checkpoints).partitions
 
-  are : held ≡ map faults_by (all_news ps)
-  are = holds at.checkpoints at.keeps.kept_as
+  are : held ≡ map faults_by (all_new_output ps)
+  are = holds at.checkpoints at.keeps.stored_as
 
   -- as many as there are partitions
   pub held_number : length held ≡ job.partitions
   held_number =
-      ap length are ∙ length-map (all_news ps) faults_by ∙ length-map ps news_of ∙ sym (length-map ps (λ (p : Progress). p.row)) ∙ ap length at.rows_are
+      ap length are ∙ length-map (all_new_output ps) faults_by ∙ length-map ps new_output_of ∙ sym (length-map ps (λ (p : Progress). p.row)) ∙ ap length at.rows_are
       ∙ sym (again-length rows) ∙ sym (ap length at.again) ∙ sym (length-map s.setup.rows range_of) ∙ ap length at.runs.ranges ∙ even_length (length items) job.partitions
 
   pub held_named : (faults : SliceFaults) → faults_in faults.skips.items ≡ skips_by held → map failure_in faults.failures.items ≡ failures_by 0 rows held → AreNamed at.checkpoints faults
   held_named faults skips failures = record {
     skips = skips ∙ ap skips_by are ∙ skips_are ps;
-    failures = failures ∙ ap (failures_by 0 rows) are ∙ ap (λ (r : List Row). failures_by 0 r (map faults_by (all_news ps))) (sym at.rows_are) ∙ failures_are 0 ps;
+    failures = failures ∙ ap (failures_by 0 rows) are ∙ ap (λ (r : List Row). failures_by 0 r (map faults_by (all_new_output ps))) (sym at.rows_are) ∙ failures_are 0 ps;
   }

@@ -8,11 +8,11 @@ use Rattle.jb_ready.specs.declared.notes.Note.{Note}
 use Rattle.jb_rules.specs.declared.row.Row.{Row}
 use Rattle.jb_records.specs.Following.{FollowRules, ranges_of}
 use Rattle.jb_records.specs.Function.{steady}
-use Rattle.jb_records.specs.Shares.{AreRowsInOrder}
+use Rattle.jb_records.specs.PartitionResults.{AreRowsInOrder}
 use Rattle.jb_slices.specs.Function.{Function}
-use Rattle.jb_slice_run.specs.News.{CanAllGrow, CanGrow, IsNewsOf, from_of}
+use Rattle.jb_slice_run.specs.NewOutput.{CanAllGrow, CanGrow, IsNewOutputOf, from_of}
 use Rattle.jb_slice_run.specs.Rows.{ArePlaced, AreStopsNamed, HaveRisen, begins_of, places_of, progress_since, progresses_since}
-use Rattle.jb_slice_run.specs.Strings.{News, all_news, news_of}
+use Rattle.jb_slice_run.specs.Strings.{NewOutput, all_new_output, new_output_of}
 
 none-longer : (n : ℕ) → 0 ≡ suc n → ⊥
 none-longer n e = omega (arith, e)
@@ -42,31 +42,31 @@ places-from (b ∷ before) (r ∷ rows) number (suc i) row get = places-from bef
 -- ---- what is new, as progresses
 
 module _ (f : Function) (rules : RulesRecord) (first : ℕ) (items : List (List ℕ)) where
-  one-is : (from : ℕ) (b : Option Row) (row : Row) (one : List (List ℕ)) (new : News) (is : IsNewsOf f rules first items b row one new) → from ≡ from_of b row
-      → news_of (progress_since f first items from row one is.told.stop) ≡ new
+  one-is : (from : ℕ) (b : Option Row) (row : Row) (one : List (List ℕ)) (new : NewOutput) (is : IsNewOutputOf f rules first items b row one new) → from ≡ from_of b row
+      → new_output_of (progress_since f first items from row one is.agrees.stop) ≡ new
   one-is from b row one new is starts =
-      (λ i. news_of (progress_since f first items (starts i) row one is.told.stop)) ∙ λ i. record { results = sym is.results_are i; skips = sym is.skips_are i; stop = sym is.told.stop_is i }
+      (λ i. new_output_of (progress_since f first items (starts i) row one is.agrees.stop)) ∙ λ i. record { results = sym is.results_are i; skips = sym is.skips_are i; stop = sym is.agrees.stop_is i }
 
-  pub listed : (b : ℕ → Option Row) (from : List ℕ) (rows : List Row) (results : List (List (List ℕ))) (news : List News)
-      → length from ≡ length rows → length results ≡ length rows → length news ≡ length rows
+  pub listed : (b : ℕ → Option Row) (from : List ℕ) (rows : List Row) (results : List (List (List ℕ))) (new_output : List NewOutput)
+      → length from ≡ length rows → length results ≡ length rows → length new_output ≡ length rows
       → ((i : ℕ) (row : Row) → slice_get rows i ≡ Some row → slice_get from i ≡ Some (from_of (b i) row))
-      → ((i : ℕ) (row : Row) (one : List (List ℕ)) (new : News) → slice_get rows i ≡ Some row → slice_get results i ≡ Some one → slice_get news i ≡ Some new → IsNewsOf f rules first items (b i) row one new)
-      → (stops : List (Option Note)) × (all_news (progresses_since f first items from rows results stops) ≡ news) × AreStopsNamed f rules items rows stops
+      → ((i : ℕ) (row : Row) (one : List (List ℕ)) (new : NewOutput) → slice_get rows i ≡ Some row → slice_get results i ≡ Some one → slice_get new_output i ≡ Some new → IsNewOutputOf f rules first items (b i) row one new)
+      → (stops : List (Option Note)) × (all_new_output (progresses_since f first items from rows results stops) ≡ new_output) × AreStopsNamed f rules items rows stops
   listed b [] [] [] [] fs rs ns starts each = ([], refl, tt)
-  listed b [] [] [] (new ∷ news) fs rs ns starts each = absurd (none-longer (length news) (sym ns))
-  listed b [] [] (one ∷ results) news fs rs ns starts each = absurd (none-longer (length results) (sym rs))
-  listed b [] (row ∷ rows) results news fs rs ns starts each = absurd (none-longer (length rows) fs)
-  listed b (at ∷ from) [] results news fs rs ns starts each = absurd (none-longer (length from) (sym fs))
-  listed b (at ∷ from) (row ∷ rows) [] news fs rs ns starts each = absurd (none-longer (length rows) rs)
+  listed b [] [] [] (new ∷ new_output) fs rs ns starts each = absurd (none-longer (length new_output) (sym ns))
+  listed b [] [] (one ∷ results) new_output fs rs ns starts each = absurd (none-longer (length results) (sym rs))
+  listed b [] (row ∷ rows) results new_output fs rs ns starts each = absurd (none-longer (length rows) fs)
+  listed b (at ∷ from) [] results new_output fs rs ns starts each = absurd (none-longer (length from) (sym fs))
+  listed b (at ∷ from) (row ∷ rows) [] new_output fs rs ns starts each = absurd (none-longer (length rows) rs)
   listed b (at ∷ from) (row ∷ rows) (one ∷ results) [] fs rs ns starts each = absurd (none-longer (length rows) ns)
-  listed b (at ∷ from) (row ∷ rows) (one ∷ results) (new ∷ news) fs rs ns starts each =
+  listed b (at ∷ from) (row ∷ rows) (one ∷ results) (new ∷ new_output) fs rs ns starts each =
       let here = each 0 row one new refl refl refl in
       let begins = some-once at (from_of (b 0) row) (starts 0 row refl) in
-      let more = listed (λ i. b (suc i)) from rows results news (one-less (length from) (length rows) fs) (one-less (length results) (length rows) rs) (one-less (length news) (length rows) ns)
-      (λ i r get. starts (suc i) r get) (λ i r o n get results_get news_get. each (suc i) r o n get results_get news_get) in (
-        here.told.stop ∷ more.0,
-        ap (λ n. n ∷ all_news (progresses_since f first items from rows results more.0)) (one-is at (b 0) row one new here begins) ∙ ap (λ ns. new ∷ ns) more.1,
-        (here.told.named, more.2),
+      let more = listed (λ i. b (suc i)) from rows results new_output (one-less (length from) (length rows) fs) (one-less (length results) (length rows) rs) (one-less (length new_output) (length rows) ns)
+      (λ i r get. starts (suc i) r get) (λ i r o n get results_get new_output_get. each (suc i) r o n get results_get new_output_get) in (
+        here.agrees.stop ∷ more.0,
+        ap (λ n. n ∷ all_new_output (progresses_since f first items from rows results more.0)) (one-is at (b 0) row one new here begins) ∙ ap (λ ns. new ∷ ns) more.1,
+        (here.agrees.named, more.2),
       )
 
   -- ---- they can grow
@@ -102,22 +102,22 @@ module _ (f : Function) (rules : RulesRecord) (first : ℕ) (items : List (List 
 -- ---- one after the other
 
 module _ (f : Function) (rules : RulesRecord) (first : ℕ) (items : List (List ℕ)) where
-  abbrev pub Each : (ℕ → Option Row) → List Row → (results : List (List (List ℕ))) → List News → Type 0
-  Each b rows results news =
-      (i : ℕ) (row : Row) (one : List (List ℕ)) (new : News) → slice_get rows i ≡ Some row → slice_get results i ≡ Some one → slice_get news i ≡ Some new → IsNewsOf f rules first items (b i) row one new
+  abbrev pub Each : (ℕ → Option Row) → List Row → (results : List (List (List ℕ))) → List NewOutput → Type 0
+  Each b rows results new_output =
+      (i : ℕ) (row : Row) (one : List (List ℕ)) (new : NewOutput) → slice_get rows i ≡ Some row → slice_get results i ≡ Some one → slice_get new_output i ≡ Some new → IsNewOutputOf f rules first items (b i) row one new
 
-  pub each-more : (b : ℕ → Option Row) (rows : List Row) (results : List (List (List ℕ))) (news : List News) (n : News) → Each b rows results news
-      → ((row : Row) (one : List (List ℕ)) → slice_get rows (length news) ≡ Some row → slice_get results (length news) ≡ Some one → IsNewsOf f rules first items (b (length news)) row one n)
-      → Each b rows results (news ++ n ∷ [])
-  each-more b rows results [] n each last zero row one new get results_get news_get =
+  pub each-more : (b : ℕ → Option Row) (rows : List Row) (results : List (List (List ℕ))) (new_output : List NewOutput) (n : NewOutput) → Each b rows results new_output
+      → ((row : Row) (one : List (List ℕ)) → slice_get rows (length new_output) ≡ Some row → slice_get results (length new_output) ≡ Some one → IsNewOutputOf f rules first items (b (length new_output)) row one n)
+      → Each b rows results (new_output ++ n ∷ [])
+  each-more b rows results [] n each last zero row one new get results_get new_output_get =
       let same : n ≡ new = cc in
-      subst (IsNewsOf f rules first items (b 0) row one) same (last row one get results_get)
-  each-more b rows results [] n each last (suc i) row one new get results_get news_get = let never : ⊥ = cc in absurd never
-  each-more b rows results (m ∷ news) n each last zero row one new get results_get news_get = each 0 row one new get results_get news_get
-  each-more b [] results (m ∷ news) n each last (suc i) row one new get results_get news_get = let never : ⊥ = cc in absurd never
-  each-more b (r ∷ rows) [] (m ∷ news) n each last (suc i) row one new get results_get news_get = let never : ⊥ = cc in absurd never
-  each-more b (r ∷ rows) (o ∷ results) (m ∷ news) n each last (suc i) row one new get results_get news_get =
-      each-more (λ j. b (suc j)) rows results news n (λ j r2 o2 n2 x y z. each (suc j) r2 o2 n2 x y z) (λ r2 o2 x y. last r2 o2 x y) i row one new get results_get news_get
+      subst (IsNewOutputOf f rules first items (b 0) row one) same (last row one get results_get)
+  each-more b rows results [] n each last (suc i) row one new get results_get new_output_get = let never : ⊥ = cc in absurd never
+  each-more b rows results (m ∷ new_output) n each last zero row one new get results_get new_output_get = each 0 row one new get results_get new_output_get
+  each-more b [] results (m ∷ new_output) n each last (suc i) row one new get results_get new_output_get = let never : ⊥ = cc in absurd never
+  each-more b (r ∷ rows) [] (m ∷ new_output) n each last (suc i) row one new get results_get new_output_get = let never : ⊥ = cc in absurd never
+  each-more b (r ∷ rows) (o ∷ results) (m ∷ new_output) n each last (suc i) row one new get results_get new_output_get =
+      each-more (λ j. b (suc j)) rows results new_output n (λ j r2 o2 n2 x y z. each (suc j) r2 o2 n2 x y z) (λ r2 o2 x y. last r2 o2 x y) i row one new get results_get new_output_get
 
 -- the next of the results, and those behind it
 pub next-left : (n : ℕ) (results : List (List (List ℕ))) (one : List (List ℕ)) (rest : List (List (List ℕ))) → one ∷ rest ≡ drop n results → slice_get results n ≡ Some one
@@ -148,15 +148,15 @@ some-list : (a b : List (List ℕ)) → ◌≡◌ {A = Option (List (List ℕ))}
 some-list a b e = cc
 
 -- what a call answered of one partition
-pub one-get : (f : Function) (rules : RulesRecord) (first : ℕ) (items : List (List ℕ)) (before rows : List Row) (results : List (List (List ℕ))) (n m : ℕ) (row other : Row) (one o : List (List ℕ)) (new : News) (was : Option Row)
-    → n ≡ m → slice_get rows n ≡ Some row → slice_get results n ≡ Some one → was ≡ slice_get before n → CanAllGrow f rules items before rows → (CanGrow f rules items was row → IsNewsOf f rules first items was row one new)
-    → slice_get rows m ≡ Some other → slice_get results m ≡ Some o → IsNewsOf f rules first items (slice_get before m) other o new
+pub one-get : (f : Function) (rules : RulesRecord) (first : ℕ) (items : List (List ℕ)) (before rows : List Row) (results : List (List (List ℕ))) (n m : ℕ) (row other : Row) (one o : List (List ℕ)) (new : NewOutput) (was : Option Row)
+    → n ≡ m → slice_get rows n ≡ Some row → slice_get results n ≡ Some one → was ≡ slice_get before n → CanAllGrow f rules items before rows → (CanGrow f rules items was row → IsNewOutputOf f rules first items was row one new)
+    → slice_get rows m ≡ Some other → slice_get results m ≡ Some o → IsNewOutputOf f rules first items (slice_get before m) other o new
 one-get f rules first items before rows results n m row other one o new was same here there was-is can call get o-get =
     let row-is : row ≡ other = some-row row other (sym here ∙ ap (slice_get rows) same ∙ get) in
     let one-is : one ≡ o = some-list one o (sym there ∙ ap (slice_get results) same ∙ o-get) in
-    let told = call (subst (λ (b : Option Row). CanGrow f rules items b row) (sym was-is) (can n row here)) in
-    subst (λ (b : Option Row). IsNewsOf f rules first items b other o new) (was-is ∙ ap (slice_get before) same)
-    (subst (λ (x : List (List ℕ)). IsNewsOf f rules first items was other x new) one-is (subst (λ (r : Row). IsNewsOf f rules first items was r one new) row-is told))
+    let agrees = call (subst (λ (b : Option Row). CanGrow f rules items b row) (sym was-is) (can n row here)) in
+    subst (λ (b : Option Row). IsNewOutputOf f rules first items b other o new) (was-is ∙ ap (slice_get before) same)
+    (subst (λ (x : List (List ℕ)). IsNewOutputOf f rules first items was other x new) one-is (subst (λ (r : Row). IsNewOutputOf f rules first items was r one new) row-is agrees))
 
 pub copied-map : (o : Option (Bor Row)) → option_map (λ r. r.now) o ≡ option_copied o
 copied-map None = refl

@@ -10,7 +10,7 @@ use Rattle.jb_base.specs.declared.class.ClassId.{ClassId}
 use Rattle.jb_slices.specs.Checkpoint.{Header}
 use Rattle.jb_slices.specs.Function.{Fault}
 use Rattle.jb_slices.specs.Job.{FaultClasses, Job, Limits}
-use Rattle.jb_slice_run.specs.Strings.{AreFaultsSmall, AreLimitsSmall, AreNewsSmall, AreSetsSmall, IsHeaderSmall, IsSmall, News, classes_list, fault_string, header_lists, limit_string, limits_list, news_lists, number_string, stop_list}
+use Rattle.jb_slice_run.specs.Strings.{AreFaultsSmall, AreLimitsSmall, AreOutputsSmall, AreSetsSmall, IsHeaderSmall, IsSmall, NewOutput, classes_list, fault_string, header_lists, limit_string, limits_list, new_output_lists, number_string, stop_list}
 
 pub number_length : (n : ℕ) → length (number_string n) ≡ 8
 unfolding number_string
@@ -102,11 +102,11 @@ stop_once (Some f) (Some g) low small e = ap Some (fault_once f g (low f refl) (
 
 -- ---- partitions
 
-pub news_once : (ms ns : List News) → AreNewsSmall ms → AreNewsSmall ns → news_lists ms ≡ news_lists ns → ms ≡ ns
-news_once [] [] low small e = refl
-news_once [] (n ∷ ns) low small e = let none : ⊥ = cc in absurd none
-news_once (m ∷ ms) [] low small e = let none : ⊥ = cc in absurd none
-news_once (m ∷ ms) (n ∷ ns) low small e =
+pub new_output_once : (ms ns : List NewOutput) → AreOutputsSmall ms → AreOutputsSmall ns → new_output_lists ms ≡ new_output_lists ns → ms ≡ ns
+new_output_once [] [] low small e = refl
+new_output_once [] (n ∷ ns) low small e = let none : ⊥ = cc in absurd none
+new_output_once (m ∷ ms) [] low small e = let none : ⊥ = cc in absurd none
+new_output_once (m ∷ ms) (n ∷ ns) low small e =
     let results : m.results ≡ n.results = head_of _ _ _ _ e in
     let first = tail_of _ _ _ _ e in
     let skips : m.skips ≡ n.skips = faults_once m.skips n.skips low.0.skips small.0.skips (head_of _ _ _ _ first) in
@@ -116,7 +116,7 @@ news_once (m ∷ ms) (n ∷ ns) low small e =
     ap (λ (r : List (List ℕ)). record m { results = r }) results
     ∙ ap (λ (k : List Fault). record m { results = n.results; skips = k }) skips
     ∙ ap (λ (k : Option Fault). record n { stop = k }) stop in
-    ap₂ ◌∷◌ one (news_once ms ns low.1 small.1 (tail_of _ _ _ _ second))
+    ap₂ ◌∷◌ one (new_output_once ms ns low.1 small.1 (tail_of _ _ _ _ second))
 
 -- ---- a header
 

@@ -16,35 +16,35 @@ use Rattle.jb_saved.specs.declared.place.SavedPlace.{SavedPlace}
 use Rattle.jb_records.specs.Following.{AreRulesRaised, FollowRules, ranges_of}
 use Rattle.jb_records.specs.FollowingLaws.{RaisedRulesFollow, RestartsKeepRanges}
 use Rattle.jb_records.specs.Function.{steady}
-use Rattle.jb_records.specs.Shares.{AreAtTheirEnds, IsSoFar}
-use Rattle.jb_records.specs.Stretches.{BeginsBehind, GoesBy, RunState, StandsOver}
+use Rattle.jb_records.specs.PartitionResults.{AreAtTheirEnds, IsSoFar}
+use Rattle.jb_records.specs.Intervals.{ResumesFrom, GoesBy, RunState, StandsOver}
 use Rattle.jb_records.specs.declared.step.RecordsStep.{RecordsStep}
-use Rattle.jb_slice_file.specs.Kept.{Kept, kept}
+use Rattle.jb_slice_file.specs.CheckpointBytes.{CheckpointBytes, checkpoint_bytes}
 use Rattle.jb_slice_file.specs.declared.checkpoint.Checkpoint.{Checkpoint as HeldCheckpoint}
 use Rattle.jb_slices.specs.Checkpoint.{Begins, Checkpoint, GoesOn, Header, Interval, Progress, header_of}
 use Rattle.jb_slices.specs.Function.{Function}
 use Rattle.jb_slices.specs.Job.{AreRaised, Job, Limits, first_of, rules_of}
 use Rattle.jb_slices.specs.Partitions as partitions
 use Rattle.jb_slices.specs.Partitions.{AreFinished, ArePartitionsSoFar, grown}
-use Rattle.jb_slices.specs.Slice.{Follow, Functions, IsInterval, IsPlaceSoFar, IsSliceSoFar, Place, led, next, place_of, start}
+use Rattle.jb_slices.specs.Slice.{Follow, Functions, IsInterval, IsStateSoFar, IsSliceSoFar, SliceState, led, next, slice_state, start}
 use Rattle.jb_slice_run.specs.Causes.{IsFirstOwn}
-use Rattle.jb_slice_run.specs.Held.{AreIntervalsOf, HasRead, PlacesAreRead, limits_in, limits_led, news_in}
+use Rattle.jb_slice_run.specs.Held.{AreIntervalsOf, HasRead, PlacesAreRead, limits_in, limits_led, new_output_in}
 use Rattle.jb_slice_run.specs.Jobs.{kept_stamps, own_header, stamps_in}
-use Rattle.jb_slice_run.specs.Kept.{AreKeptAs, IsKeptAs, KeepsSlice}
-use Rattle.jb_slice_run.specs.Laws.{BeginsWithHeader, EachIsKeptAsOne, KeptAsOne, SlicesBeginWithHeaders}
+use Rattle.jb_slice_run.specs.SliceBytes.{AreStoredAs, IsStoredAs, KeepsSlice}
+use Rattle.jb_slice_run.specs.Laws.{BeginsWithHeader, EachIsStoredAsOne, StoredAsOne, SlicesBeginWithHeaders}
 use Rattle.jb_slice_run.specs.RowLaws.{EndsAreOfRows, EvenRowsAreInOrder, IdleRowsArePlaced, SoFarAreRows, StampsAreOf}
 use Rattle.jb_slice_run.specs.Rows.{ArePlaced, results_in, rows_in}
 use Rattle.jb_slice_run.specs.Refusals.{IsOwn}
-use Rattle.jb_slice_run.specs.Step.{AreOf}
-use Rattle.jb_slice_run.specs.Strings.{News, all_news}
+use Rattle.jb_slice_run.specs.Step.{AreStampsOf}
+use Rattle.jb_slice_run.specs.Strings.{NewOutput, all_new_output}
 use Rattle.jb_slice_run.specs.Whole.{KeepsWhole}
-use Rattle.jb_slice_run.specs.Work.{HasNoResults, IsUnderway, RunsSlice, SliceStandsAt}
+use Rattle.jb_slice_run.specs.Work.{HasNoResults, HasIntervals, RunsSlice, SliceStandsAt}
 use Rattle.jb_slice_run.specs.declared.job.SliceJob.{SliceJob}
-use Rattle.jb_slice_run.specs.declared.news.HeldSlice.{HeldSlice}
-use Rattle.jb_slice_run.specs.declared.news.PartitionNews.{PartitionNews}
+use Rattle.jb_slice_run.specs.declared.partition_output.HeldSlice.{HeldSlice}
+use Rattle.jb_slice_run.specs.declared.partition_output.PartitionOutput.{PartitionOutput}
 use Rattle.jb_slice_run.proofs.RowsGrown.{ranges-in}
-use Rattle.jb_slice_run.specs.declared.place.Stage.{Stage}
-use Rattle.jb_slice_run.specs.declared.place.Stage.TheVariants.{Begun, Blank}
+use Rattle.jb_slice_run.specs.declared.resumable_run.Stage.{Stage}
+use Rattle.jb_slice_run.specs.declared.resumable_run.Stage.TheVariants.{HeaderOnly, NoCheckpoint}
 use Rattle.jb_slice_run.proofs.Working.{last-next, led-more, stands-as}
 
 pub header-once : (h k : Header) → Begins h ≡ Begins k → h ≡ k
@@ -55,40 +55,40 @@ saved-once x y e = cc
 
 -- ---- the last of the checkpoints
 
-split-at-last : (n : ℕ) (xs : List HeldCheckpoint) (x : HeldCheckpoint) → length xs ≡ suc n → slice_get xs n ≡ Some x → map kept xs ≡ map kept (take n xs) ++ kept x ∷ []
+split-at-last : (n : ℕ) (xs : List HeldCheckpoint) (x : HeldCheckpoint) → length xs ≡ suc n → slice_get xs n ≡ Some x → map checkpoint_bytes xs ≡ map checkpoint_bytes (take n xs) ++ checkpoint_bytes x ∷ []
 split-at-last n [] x number is = absurd (omega (arith, number))
-split-at-last zero (y ∷ []) x number is = let same : y ≡ x = cc in ap (λ z. kept z ∷ []) same
+split-at-last zero (y ∷ []) x number is = let same : y ≡ x = cc in ap (λ z. checkpoint_bytes z ∷ []) same
 split-at-last zero (y ∷ (z ∷ xs)) x number is = absurd (omega (arith, number))
-split-at-last (suc n) (y ∷ xs) x number is = ap (λ l. kept y ∷ l) (split-at-last n xs x (omega (arith, number)) is)
+split-at-last (suc n) (y ∷ xs) x number is = ap (λ l. checkpoint_bytes y ∷ l) (split-at-last n xs x (omega (arith, number)) is)
 
-pub split-last : (xs : List HeldCheckpoint) (x : HeldCheckpoint) → slice_get xs (length xs - 1) ≡ Some x → map kept xs ≡ map kept (take (length xs - 1) xs) ++ kept x ∷ []
+pub split-last : (xs : List HeldCheckpoint) (x : HeldCheckpoint) → slice_get xs (length xs - 1) ≡ Some x → map checkpoint_bytes xs ≡ map checkpoint_bytes (take (length xs - 1) xs) ++ checkpoint_bytes x ∷ []
 split-last [] x is = let none : ⊥ = cc in absurd none
 split-last (y ∷ xs) x is = split-at-last (length (y ∷ xs) - 1) (y ∷ xs) x (omega arith) is
 
 -- an interval is kept as the last one
-pub record EndsWith (count : ℕ) (cs : List Checkpoint) (last : Kept) : Type 0 where
+pub record EndsWith (count : ℕ) (cs : List Checkpoint) (last : CheckpointBytes) : Type 0 where
   pub front : List Checkpoint
   pub interval : Interval
   pub cs_are : cs ≡ front ++ GoesOn interval ∷ []
-  pub kept_as : IsKeptAs (GoesOn interval) last
+  pub stored_as : IsStoredAs (GoesOn interval) last
   pub front_intervals : AreIntervalsOf count front
 
-pub ends-with : (count : ℕ) (cs : List Checkpoint) (before : List Kept) (last : Kept) → AreKeptAs cs (before ++ last ∷ []) → AreIntervalsOf count cs → EndsWith count cs last
+pub ends-with : (count : ℕ) (cs : List Checkpoint) (before : List CheckpointBytes) (last : CheckpointBytes) → AreStoredAs cs (before ++ last ∷ []) → AreIntervalsOf count cs → EndsWith count cs last
 ends-with count [] [] last are all = absurd are
 ends-with count [] (b ∷ before) last are all = absurd are
 ends-with count (Begins h ∷ cs) before last are all = absurd all.0
-ends-with count (GoesOn i ∷ []) [] last are all = record { front = []; interval = i; cs_are = refl; kept_as = are.0; front_intervals = tt }
+ends-with count (GoesOn i ∷ []) [] last are all = record { front = []; interval = i; cs_are = refl; stored_as = are.0; front_intervals = tt }
 ends-with count (GoesOn i ∷ (c ∷ cs)) [] last are all = absurd are.1
 ends-with count (GoesOn i ∷ cs) (b ∷ before) last are all =
     let more = ends-with count cs before last are.1 all.1 in
-    record { front = GoesOn i ∷ more.front; interval = more.interval; cs_are = ap (λ ds. GoesOn i ∷ ds) more.cs_are; kept_as = more.kept_as; front_intervals = (all.0, more.front_intervals) }
+    record { front = GoesOn i ∷ more.front; interval = more.interval; cs_are = ap (λ ds. GoesOn i ∷ ds) more.cs_are; stored_as = more.stored_as; front_intervals = (all.0, more.front_intervals) }
 
 some-there : (front : List Checkpoint) (c : Checkpoint) → front ++ c ∷ [] ≡ [] → ⊥
 some-there [] c e = cc
 some-there (d ∷ front) c e = cc
 
 -- intervals leave a slice begun, with its stamp
-led-stamp : (at : Place) (count : ℕ) (cs : List Checkpoint) → AreIntervalsOf count cs → (led at cs).stamp ≡ at.stamp
+led-stamp : (at : SliceState) (count : ℕ) (cs : List Checkpoint) → AreIntervalsOf count cs → (led at cs).stamp ≡ at.stamp
 led-stamp at count [] all = refl
 led-stamp at count (Begins h ∷ cs) all = absurd all.0
 led-stamp at count (GoesOn i ∷ cs) all = led-stamp (next at (GoesOn i)) count cs all.1
@@ -100,11 +100,11 @@ grown-rows (p ∷ ps) (q ∷ qs) = ap (λ rs. q.row ∷ rs) (grown-rows ps qs)
 
 -- ---- results
 
-pub results-of-news : (ns : List PartitionNews) → map (λ (n : News). n.results) (map news_in ns) ≡ map (λ (n : PartitionNews). n.results) ns
-results-of-news [] = refl
-results-of-news (n ∷ ns) = ap (λ rs. n.results ∷ rs) (results-of-news ns)
+pub results-of-new_output : (ns : List PartitionOutput) → map (λ (n : NewOutput). n.results) (map new_output_in ns) ≡ map (λ (n : PartitionOutput). n.results) ns
+results-of-new_output [] = refl
+results-of-new_output (n ∷ ns) = ap (λ rs. n.results ∷ rs) (results-of-new_output ns)
 
-results-of-places : (ps : List Progress) → map (λ (n : News). n.results) (all_news ps) ≡ results_in ps
+results-of-places : (ps : List Progress) → map (λ (n : NewOutput). n.results) (all_new_output ps) ≡ results_in ps
 results-of-places [] = refl
 results-of-places (p ∷ ps) = ap (λ rs. p.results ∷ rs) (results-of-places ps)
 
@@ -122,20 +122,20 @@ whole-after (row ∷ rows) whole = (ap (λ (r : Row). r.state) (finished-again r
 
 -- ---- a run that begins behind a text
 
-pub behind-of : (id a b : List ℕ) (x y : List (List (List ℕ))) (s : RunState) → a ≡ b → x ≡ y → BeginsBehind id a x s → BeginsBehind id b y s
-behind-of id a b x y s text shares behind = subst (λ (t : List ℕ). BeginsBehind id t y s) text (subst (λ (z : List (List (List ℕ))). BeginsBehind id a z s) shares behind)
+pub behind-of : (id a b : List ℕ) (x y : List (List (List ℕ))) (s : RunState) → a ≡ b → x ≡ y → ResumesFrom id a x s → ResumesFrom id b y s
+behind-of id a b x y s text partition_results behind = subst (λ (t : List ℕ). ResumesFrom id t y s) text (subst (λ (z : List (List (List ℕ))). ResumesFrom id a z s) partition_results behind)
 
-pub ended-before : (id text : List ℕ) (shares : List (List (List ℕ))) (s : RunState) (saved : SavedRows) (rows : List Row) → BeginsBehind id text shares s → answer_of (tree_of text) ≡ Ok saved → rows ≡ saved.rows
+pub ended-before : (id text : List ℕ) (partition_results : List (List (List ℕ))) (s : RunState) (saved : SavedRows) (rows : List Row) → ResumesFrom id text partition_results s → answer_of (tree_of text) ≡ Ok saved → rows ≡ saved.rows
     → AreAtTheirEnds s.setup.rows → AreAtTheirEnds rows
-ended-before id text shares s saved rows behind read rows_are whole =
+ended-before id text partition_results s saved rows behind read rows_are whole =
     subst AreAtTheirEnds (ap (λ (x : SavedRows). x.rows) (saved-once behind.held saved (sym behind.read ∙ read)) ∙ sym rows_are) (behind.whole whole)
 
 -- ---- WHAT THE CHECKPOINTS HAVE
 
-module _ (begins : SlicesBeginWithHeaders) (each : EachIsKeptAsOne) (read : PlacesAreRead) (back : SoFarAreRows) (order : EvenRowsAreInOrder) (idle : IdleRowsArePlaced) (raises : RaisedRulesFollow)
+module _ (begins : SlicesBeginWithHeaders) (each : EachIsStoredAsOne) (read : PlacesAreRead) (back : SoFarAreRows) (order : EvenRowsAreInOrder) (idle : IdleRowsArePlaced) (raises : RaisedRulesFollow)
     (ranges : RestartsKeepRanges) where
-  module _ (job : Job) (functions : Functions) (f : Function) (limits began : Limits) (number : ℕ) (items : List (List ℕ)) (some : 1 ≤ job.partitions) (first : Kept) (h : Header) (all : List Kept)
-      (before : List Kept) (last : Kept) (last_is : all ≡ before ++ last ∷ []) (is : IsKeptAs (Begins h) first) (began_is : h.limits ≡ began) (stamp : functions h.stamp ≡ f)
+  module _ (job : Job) (functions : Functions) (f : Function) (limits began : Limits) (number : ℕ) (items : List (List ℕ)) (some : 1 ≤ job.partitions) (first : CheckpointBytes) (h : Header) (all : List CheckpointBytes)
+      (before : List CheckpointBytes) (last : CheckpointBytes) (last_is : all ≡ before ++ last ∷ []) (is : IsStoredAs (Begins h) first) (began_is : h.limits ≡ began) (stamp : functions h.stamp ≡ f)
       (keeps : KeepsSlice job functions number items (first ∷ all)) where
     abbrev pub opened : BeginsWithHeader job functions number items first all
     opened = begins job functions number items first all keeps
@@ -147,12 +147,12 @@ module _ (begins : SlicesBeginWithHeaders) (each : EachIsKeptAsOne) (read : Plac
     cs = opened.intervals
 
     end : EndsWith job.partitions cs last
-    end = ends-with job.partitions cs before last (subst (AreKeptAs cs) last_is opened.intervals_kept) opened.are_intervals
+    end = ends-with job.partitions cs before last (subst (AreStoredAs cs) last_is opened.intervals_kept) opened.are_intervals
 
-    abbrev pub at : Place
-    at = place_of (Begins opened.header ∷ cs)
+    abbrev pub at : SliceState
+    at = slice_state (Begins opened.header ∷ cs)
 
-    abbrev front : Place
+    abbrev front : SliceState
     front = led (next start (Begins opened.header)) end.front
 
     at-is : at ≡ next front (GoesOn end.interval)
@@ -163,35 +163,35 @@ module _ (begins : SlicesBeginWithHeaders) (each : EachIsKeptAsOne) (read : Plac
         (subst (λ (ds : List Checkpoint). Follow job functions number items (next start (Begins opened.header)) ds) end.cs_are opened.so_far.1)
 
     rows-there : rows_in at.partitions ≡ rows_in end.interval.partitions
-    rows-there = ap (λ (p : Place). rows_in p.partitions) at-is ∙ grown-rows front.partitions end.interval.partitions
+    rows-there = ap (λ (p : SliceState). rows_in p.partitions) at-is ∙ grown-rows front.partitions end.interval.partitions
 
     stamp-there : functions at.stamp ≡ f
     stamp-there = ap functions (led-stamp (next start (Begins opened.header)) job.partitions cs opened.are_intervals ∙ ap (λ (k : Header). k.stamp) same-header) ∙ stamp
 
     parts-there : ArePartitionsSoFar (functions at.stamp) (rules_of job at.limits) (first_of job number) 0 items at.partitions
-    parts-there = subst (IsPlaceSoFar job functions number items) (sym at-is) last-interval.so_far
+    parts-there = subst (IsStateSoFar job functions number items) (sym at-is) last-interval.so_far
 
     even-there : ranges_of (rows_in at.partitions) ≡ even_ranges (length items) job.partitions
-    even-there = sym (ranges-in at.partitions) ∙ ap (λ (p : Place). partitions.ranges_of p.partitions) at-is ∙ last-interval.ranges
+    even-there = sym (ranges-in at.partitions) ∙ ap (λ (p : SliceState). partitions.ranges_of p.partitions) at-is ∙ last-interval.ranges
 
     -- what is read of them
     module _ (held : HeldSlice) (has : HasRead began job.partitions cs held) where
       pub limits-there : limits_in held.limits ≡ at.limits
       limits-there = has.limits ∙ ap (λ (l : Limits). limits_led l cs) (sym began_is ∙ ap (λ (k : Header). k.limits) (sym same-header)) ∙ (read opened.header job.partitions cs opened.are_intervals).0
 
-      pub results-there : map (λ (n : PartitionNews). n.results) held.partitions.items ≡ results_in at.partitions
+      pub results-there : map (λ (n : PartitionOutput). n.results) held.partitions.items ≡ results_in at.partitions
       results-there =
-          sym (results-of-news held.partitions.items)
-          ∙ ap (map (λ (n : News). n.results)) (has.news ∙ (read opened.header job.partitions cs opened.are_intervals).1 (λ none. some-there end.front (GoesOn end.interval) (sym end.cs_are ∙ none)))
+          sym (results-of-new_output held.partitions.items)
+          ∙ ap (map (λ (n : NewOutput). n.results)) (has.new_output ∙ (read opened.header job.partitions cs opened.are_intervals).1 (λ none. some-there end.front (GoesOn end.interval) (sym end.cs_are ∙ none)))
           ∙ results-of-places at.partitions
 
       -- the rows of the last text
       module _ (saved : SavedRows) (text : answer_of (tree_of last.saved) ≡ Ok saved) (sound : AreIdle saved.rows) (raised : AreRaised (limits_in held.limits) limits) where
         saved-rows : rows_in at.partitions ≡ saved.rows
-        saved-rows = rows-there ∙ sym end.kept_as.rows ∙ ap (λ (x : SavedRows). x.rows) (saved-once end.kept_as.held saved (sym end.kept_as.read ∙ text))
+        saved-rows = rows-there ∙ sym end.stored_as.rows ∙ ap (λ (x : SavedRows). x.rows) (saved-once end.stored_as.held saved (sym end.stored_as.read ∙ text))
 
         abbrev results : List (List (List ℕ))
-        results = map (λ (n : PartitionNews). n.results) held.partitions.items
+        results = map (λ (n : PartitionOutput). n.results) held.partitions.items
 
         both : IsSoFar (steady f) items (rows_in at.partitions) (results_in at.partitions) × FollowRules (steady f) (rules_of job at.limits) items (rows_in at.partitions)
         both = back f (rules_of job at.limits) (first_of job number) items at.partitions
@@ -208,60 +208,60 @@ module _ (begins : SlicesBeginWithHeaders) (each : EachIsKeptAsOne) (read : Plac
             (subst (FollowRules (steady f) (rules_of job at.limits) items) saved-rows both.1))
 
         -- behind them the run stands
-        pub underway : (step : RecordsStep) (s : RunState) (rows : List Row) → step.rules ≡ rules_of job limits → rows ≡ saved.rows → BeginsBehind step.id last.saved results s → GoesBy step s → StandsOver (steady f) items s
-            → IsUnderway job functions f limits number items s rows (first ∷ all)
+        pub underway : (step : RecordsStep) (s : RunState) (rows : List Row) → step.rules ≡ rules_of job limits → rows ≡ saved.rows → ResumesFrom step.id last.saved results s → GoesBy step s → StandsOver (steady f) items s
+            → HasIntervals job functions f limits number items s rows (first ∷ all)
         underway step s rows rules rows_are behind by stands =
             let read-same = saved-once behind.held saved (sym behind.read ∙ text) in
             let again : s.setup.rows ≡ rows_restarted saved = behind.rows ∙ ap rows_restarted read-same in
             record {
               checkpoints = Begins opened.header ∷ cs;
               keeps = record {
-                kept_as = (opened.header_kept, opened.intervals_kept);
+                stored_as = (opened.header_kept, opened.intervals_kept);
                 so_far = opened.so_far;
-                begun = ap (λ (p : Place). p.begun) at-is ∙ last-interval.begun;
+                begun = ap (λ (p : SliceState). p.begun) at-is ∙ last-interval.begun;
                 stamp_is = stamp-there;
                 raised = subst (λ (l : Limits). AreRaised l limits) limits-there raised;
               };
               rows_are = saved-rows ∙ sym rows_are;
-              shares_are = sym results-there ∙ sym behind.shares_are;
+              partition_results_are = sym results-there ∙ sym behind.partition_results_are;
               partitions = parts-there;
               runs = record { stands = stands; rules_are = by.rules_are ∙ rules; ranges = ap ranges_of again ∙ ranges saved ∙ ap ranges_of (sym saved-rows) ∙ even-there };
               again = again ∙ ap (map restarted) (sym rows_are);
             }
 
         -- and behind those of a whole slice nothing waits
-        pub whole-again : KeptAsOne → EndsAreOfRows → KeepsWhole job functions limits number items (first ∷ all) → (id : List ℕ) (shares : List (List (List ℕ))) (s : RunState) → BeginsBehind id last.saved shares s
+        pub whole-again : StoredAsOne → EndsAreOfRows → KeepsWhole job functions limits number items (first ∷ all) → (id : List ℕ) (partition_results : List (List (List ℕ))) (s : RunState) → ResumesFrom id last.saved partition_results s
             → AreAtTheirEnds s.setup.rows
-        whole-again once ends whole id shares s behind =
-            let same = once whole.checkpoints (Begins opened.header ∷ cs) (first ∷ all) whole.kept_as (opened.header_kept, opened.intervals_kept) in
-            let finished : AreFinished at.partitions = subst (λ (ds : List Checkpoint). AreFinished (place_of ds).partitions) same whole.whole.finished in
+        whole-again once ends whole id partition_results s behind =
+            let same = once whole.checkpoints (Begins opened.header ∷ cs) (first ∷ all) whole.stored_as (opened.header_kept, opened.intervals_kept) in
+            let finished : AreFinished at.partitions = subst (λ (ds : List Checkpoint). AreFinished (slice_state ds).partitions) same whole.whole.finished in
             let read-same = saved-once behind.held saved (sym behind.read ∙ text) in
             subst AreAtTheirEnds (sym (behind.rows ∙ ap rows_restarted read-same)) (whole-after saved.rows (subst AreAtTheirEnds saved-rows ((ends at.partitions).0.0 finished)))
 
 -- ---- no interval is kept
 
-pub stands-blank : (job : Job) (functions : Functions) (f : Function) (limits : Limits) (number : ℕ) (items : List (List ℕ)) (stamp : List ℕ) (own : Header) (first : HeldCheckpoint) (stage : Stage) (s : RunState) (rows : List Row) (all : List Kept)
-    → all ≡ [] → functions stamp ≡ f → own ≡ header_of job limits stamp number items → IsKeptAs (Begins own) (kept first) → RunsSlice job f limits items s → HasNoResults s → stage ≡ Blank first → rows ≡ []
+pub stands-blank : (job : Job) (functions : Functions) (f : Function) (limits : Limits) (number : ℕ) (items : List (List ℕ)) (stamp : List ℕ) (own : Header) (first : HeldCheckpoint) (stage : Stage) (s : RunState) (rows : List Row) (all : List CheckpointBytes)
+    → all ≡ [] → functions stamp ≡ f → own ≡ header_of job limits stamp number items → IsStoredAs (Begins own) (checkpoint_bytes first) → RunsSlice job f limits items s → HasNoResults s → stage ≡ NoCheckpoint first → rows ≡ []
     → SliceStandsAt job functions f limits number items stage s rows all
 stands-blank job functions f limits number items stamp own first stage s rows all none is own-is kept-as runs empty stage-is no-rows =
-    stands-as job functions f limits number items (Blank first) stage s rows all (sym stage-is) (
-      record { none = none; stamp = stamp; stamp_is = is; first_is = subst (λ (h : Header). IsKeptAs (Begins h) (kept first)) own-is kept-as; runs = runs; empty = empty },
+    stands-as job functions f limits number items (NoCheckpoint first) stage s rows all (sym stage-is) (
+      record { none = none; stamp = stamp; stamp_is = is; first_is = subst (λ (h : Header). IsStoredAs (Begins h) (checkpoint_bytes first)) own-is kept-as; runs = runs; empty = empty },
       no-rows,
     )
 
-pub stands-begun : SlicesBeginWithHeaders → EachIsKeptAsOne → (job : Job) (functions : Functions) (f : Function) (limits began : Limits) (number : ℕ) (items : List (List ℕ)) (first : Kept) (h : Header) (stage : Stage) (s : RunState) (rows : List Row)
-    (all : List Kept) → all ≡ first ∷ [] → IsKeptAs (Begins h) first → h.limits ≡ began → functions h.stamp ≡ f → KeepsSlice job functions number items all → AreRaised began limits → RunsSlice job f limits items s → HasNoResults s
-    → stage ≡ Begun → rows ≡ [] → SliceStandsAt job functions f limits number items stage s rows all
+pub stands-begun : SlicesBeginWithHeaders → EachIsStoredAsOne → (job : Job) (functions : Functions) (f : Function) (limits began : Limits) (number : ℕ) (items : List (List ℕ)) (first : CheckpointBytes) (h : Header) (stage : Stage) (s : RunState) (rows : List Row)
+    (all : List CheckpointBytes) → all ≡ first ∷ [] → IsStoredAs (Begins h) first → h.limits ≡ began → functions h.stamp ≡ f → KeepsSlice job functions number items all → AreRaised began limits → RunsSlice job f limits items s → HasNoResults s
+    → stage ≡ HeaderOnly → rows ≡ [] → SliceStandsAt job functions f limits number items stage s rows all
 stands-begun begins each job functions f limits began number items first h stage s rows all alone kept-as began-is stamp keeps raised runs empty stage-is no-rows =
     let opened = begins job functions number items first [] (subst (KeepsSlice job functions number items) alone keeps) in
     let same = header-once opened.header h (each (Begins opened.header) (Begins h) first opened.header_kept kept-as) in
     let none = no-intervals opened.intervals opened.intervals_kept in
     let so-far : IsSliceSoFar job functions number items (Begins opened.header ∷ []) = subst (λ (cs : List Checkpoint). IsSliceSoFar job functions number items (Begins opened.header ∷ cs)) none opened.so_far in
-    stands-as job functions f limits number items Begun stage s rows all (sym stage-is) (
+    stands-as job functions f limits number items HeaderOnly stage s rows all (sym stage-is) (
       record {
         checkpoints = Begins opened.header ∷ [];
         keeps = record {
-          kept_as = subst (AreKeptAs (Begins opened.header ∷ [])) (sym alone) (opened.header_kept, tt);
+          stored_as = subst (AreStoredAs (Begins opened.header ∷ [])) (sym alone) (opened.header_kept, tt);
           so_far = so-far;
           begun = refl;
           stamp_is = ap (λ (k : Header). functions k.stamp) same ∙ stamp;
@@ -274,38 +274,38 @@ stands-begun begins each job functions f limits began number items first h stage
       no-rows,
     )
   where
-    no-intervals : (cs : List Checkpoint) → AreKeptAs cs [] → cs ≡ []
+    no-intervals : (cs : List Checkpoint) → AreStoredAs cs [] → cs ≡ []
     no-intervals [] are = refl
     no-intervals (c ∷ _) are = absurd are
 
 -- ---- whose it is
 
-pub stamp-of : StampsAreOf → (functions : Functions) (f : Function) (j : SliceJob) (number : ℕ) (items : List (List ℕ)) (own h : Header) → own ≡ own_header j number items → AreOf functions f (stamps_in j) → IsOwn own (kept_stamps j) h
+pub stamp-of : StampsAreOf → (functions : Functions) (f : Function) (j : SliceJob) (number : ℕ) (items : List (List ℕ)) (own h : Header) → own ≡ own_header j number items → AreStampsOf functions f (stamps_in j) → IsOwn own (kept_stamps j) h
     → functions h.stamp ≡ f
 stamp-of law functions f j number items own h is of owned = law functions f (stamps_in j) h.stamp of (subst (λ (o : Header). Contains (o.stamp ∷ kept_stamps j) h.stamp) is owned.stamp_is)
 
-pub first-own : (j : SliceJob) (number : ℕ) (items : List (List ℕ)) (own : Header) (first : Kept) (later all : List Kept) → own ≡ own_header j number items → all ≡ first ∷ later
-    → ((h : Header) → IsKeptAs (Begins h) first → IsOwn own (kept_stamps j) h) → IsFirstOwn (own_header j number items) (kept_stamps j) all
+pub first-own : (j : SliceJob) (number : ℕ) (items : List (List ℕ)) (own : Header) (first : CheckpointBytes) (later all : List CheckpointBytes) → own ≡ own_header j number items → all ≡ first ∷ later
+    → ((h : Header) → IsStoredAs (Begins h) first → IsOwn own (kept_stamps j) h) → IsFirstOwn (own_header j number items) (kept_stamps j) all
 first-own j number items own first later all is all-is owned =
     subst (IsFirstOwn (own_header j number items) (kept_stamps j)) (sym all-is) (λ h kept-as. subst (λ (o : Header). IsOwn o (kept_stamps j) h) is (owned h kept-as))
 
-pub none-own : (j : SliceJob) (number : ℕ) (items : List (List ℕ)) (all : List Kept) → all ≡ [] → IsFirstOwn (own_header j number items) (kept_stamps j) all
+pub none-own : (j : SliceJob) (number : ℕ) (items : List (List ℕ)) (all : List CheckpointBytes) → all ≡ [] → IsFirstOwn (own_header j number items) (kept_stamps j) all
 none-own j number items all none = subst (IsFirstOwn (own_header j number items) (kept_stamps j)) (sym none) tt
 
 -- ---- none is kept
 
-pub none-done : (done : List HeldCheckpoint) → length done ≡ 0 → map kept done ≡ []
+pub none-done : (done : List HeldCheckpoint) → length done ≡ 0 → map checkpoint_bytes done ≡ []
 none-done [] none = refl
 none-done (x ∷ done) none = let never : ⊥ = omega (arith, none) in absurd never
 
-no-place : (cs : List Checkpoint) → AreKeptAs cs [] → (place_of cs).begun ≡ true → ⊥
+no-place : (cs : List Checkpoint) → AreStoredAs cs [] → (slice_state cs).begun ≡ true → ⊥
 no-place [] are begun = true≢false (sym begun)
 no-place (c ∷ _) are begun = are
 
-pub none-whole : (job : Job) (functions : Functions) (limits : Limits) (number : ℕ) (items : List (List ℕ)) (all : List Kept) → all ≡ [] → KeepsWhole job functions limits number items all → ⊥
+pub none-whole : (job : Job) (functions : Functions) (limits : Limits) (number : ℕ) (items : List (List ℕ)) (all : List CheckpointBytes) → all ≡ [] → KeepsWhole job functions limits number items all → ⊥
 none-whole job functions limits number items all none whole =
     let keeps = subst (KeepsWhole job functions limits number items) none whole in
-    no-place keeps.checkpoints keeps.kept_as keeps.whole.begun
+    no-place keeps.checkpoints keeps.stored_as keeps.whole.begun
 
 last-there : (n : ℕ) (xs : List HeldCheckpoint) → length xs ≡ suc n → slice_get xs n ≡ None → ⊥
 last-there n [] number none = omega (arith, number)

@@ -16,7 +16,7 @@ use Rattle.jb_saved.specs.GoingOn.{restarted}
 use Rattle.jb_records.specs.Following.{FollowsRules, HasFailed, IsStopOf, ranges_of}
 use Rattle.jb_records.specs.FollowingLaws.{StoppedRowsDont}
 use Rattle.jb_records.specs.Function.{steady}
-use Rattle.jb_records.specs.Shares.{AreAtTheirEnds, AreRangesOf, AreRowsInOrder}
+use Rattle.jb_records.specs.PartitionResults.{AreAtTheirEnds, AreRangesOf, AreRowsInOrder}
 use Rattle.jb_slices.specs.Checkpoint.{Progress}
 use Rattle.jb_slices.specs.Function.{Function}
 use Rattle.jb_slices.specs.Partitions as partitions

@@ -9,15 +9,15 @@ use Rattle.jb_rules.specs.declared.row.Row.{Row}
 use Rattle.jb_records.specs.Following.{FollowRules, ranges_of}
 use Rattle.jb_records.specs.FollowingLaws.{FaultsAreOfItems}
 use Rattle.jb_records.specs.Function.{steady}
-use Rattle.jb_records.specs.Shares.{AreRowsInOrder, IsShare, IsSoFar}
+use Rattle.jb_records.specs.PartitionResults.{AreRowsInOrder, IsPartitionResult, IsSoFar}
 use Rattle.jb_records.specs.Skips.{skips_between}
-use Rattle.jb_records.specs.Stretches as stretches
+use Rattle.jb_records.specs.Intervals as stretches
 use Rattle.jb_slices.specs.Checkpoint.{Progress}
 use Rattle.jb_slices.specs.Function.{Function}
 use Rattle.jb_slices.specs.Job.{AreRaised, Job, Limits, first_of, rules_of}
 use Rattle.jb_slices.specs.Partitions as partitions
 use Rattle.jb_slices.specs.Partitions.{ArePartitionsSoFar, grown}
-use Rattle.jb_slices.specs.Slice.{Functions, IsInterval, Place}
+use Rattle.jb_slices.specs.Slice.{Functions, IsInterval, SliceState}
 use Rattle.jb_slice_run.specs.RowLaws.{FirstIntervalsFollow, GrownIsProgress, LaterIntervalsFollow, ProgressesHaveRows}
 use Rattle.jb_slice_run.specs.Rows.{ArePlaced, AreStopsNamed, HaveRisen, IsStopNamed, begins_of, fault_at, faults_at, places_of, progresses_of, progresses_since, results_in, rows_in}
 use Rattle.jb_slice_run.proofs.RowItems.{skips-on}
@@ -40,13 +40,13 @@ as-many R (x ∷ xs) (y ∷ ys) are = ap suc (as-many R xs ys are.1)
 
 pub have-rows : ProgressesHaveRows
 have-rows f first records [] [] [] stops fs ss ts = (refl, refl)
-have-rows f first records [] [] (share ∷ shares) stops fs ss ts = absurd (none-longer (length shares) (sym ss))
-have-rows f first records [] (row ∷ rows) shares stops fs ss ts = absurd (none-longer (length rows) fs)
-have-rows f first records (from ∷ others) [] shares stops fs ss ts = absurd (none-longer (length others) (sym fs))
+have-rows f first records [] [] (share ∷ partition_results) stops fs ss ts = absurd (none-longer (length partition_results) (sym ss))
+have-rows f first records [] (row ∷ rows) partition_results stops fs ss ts = absurd (none-longer (length rows) fs)
+have-rows f first records (from ∷ others) [] partition_results stops fs ss ts = absurd (none-longer (length others) (sym fs))
 have-rows f first records (from ∷ others) (row ∷ rows) [] stops fs ss ts = absurd (none-longer (length rows) ss)
-have-rows f first records (from ∷ others) (row ∷ rows) (share ∷ shares) [] fs ss ts = absurd (none-longer (length rows) ts)
-have-rows f first records (from ∷ others) (row ∷ rows) (share ∷ shares) (stop ∷ stops) fs ss ts =
-    let later = have-rows f first records others rows shares stops (one-less (length others) (length rows) fs) (one-less (length shares) (length rows) ss) (one-less (length stops) (length rows) ts) in
+have-rows f first records (from ∷ others) (row ∷ rows) (share ∷ partition_results) [] fs ss ts = absurd (none-longer (length rows) ts)
+have-rows f first records (from ∷ others) (row ∷ rows) (share ∷ partition_results) (stop ∷ stops) fs ss ts =
+    let later = have-rows f first records others rows partition_results stops (one-less (length others) (length rows) fs) (one-less (length partition_results) (length rows) ss) (one-less (length stops) (length rows) ts) in
     (ap (λ rs. row ∷ rs) later.0, ap (λ xs. share ∷ xs) later.1)
 
 pub ranges-in : (ps : List Progress) → partitions.ranges_of ps ≡ ranges_of (rows_in ps)
@@ -56,16 +56,16 @@ ranges-in (p ∷ ps) = ap (λ rs. record { lo = p.row.lo; hi = p.row.hi } ∷ rs
 -- ---- WHAT IS NEW, BEHIND WHAT THERE WAS
 
 module _ (law : FaultsAreOfItems) (f : Function) (rules : RulesRecord) (first : ℕ) (records : List (List ℕ)) where
-  grown-from : (from : ℕ) (ps : List Progress) (rows : List Row) (news : List (List (List ℕ))) (stops : List (Option Note)) → ArePartitionsSoFar f rules first from (drop from records) ps
+  grown-from : (from : ℕ) (ps : List Progress) (rows : List Row) (new_output : List (List (List ℕ))) (stops : List (Option Note)) → ArePartitionsSoFar f rules first from (drop from records) ps
       → AreRowsInOrder from (length records) (rows_in ps) → ArePlaced (rows_in ps) → ranges_of rows ≡ ranges_of (rows_in ps) → HaveRisen (rows_in ps) rows
-      → ArePlaced rows → length news ≡ length rows → length stops ≡ length rows
-      → grown ps (progresses_since f first records (places_of (rows_in ps)) rows news stops) ≡ progresses_of f first records rows (stretches.grown (results_in ps) news) stops
-  grown-from from [] [] news stops parts order placed ranges risen now ns ts = refl
-  grown-from from [] (row ∷ rows) news stops parts order placed ranges risen now ns ts = absurd risen
-  grown-from from (p ∷ ps) [] news stops parts order placed ranges risen now ns ts = absurd risen
+      → ArePlaced rows → length new_output ≡ length rows → length stops ≡ length rows
+      → grown ps (progresses_since f first records (places_of (rows_in ps)) rows new_output stops) ≡ progresses_of f first records rows (stretches.grown (results_in ps) new_output) stops
+  grown-from from [] [] new_output stops parts order placed ranges risen now ns ts = refl
+  grown-from from [] (row ∷ rows) new_output stops parts order placed ranges risen now ns ts = absurd risen
+  grown-from from (p ∷ ps) [] new_output stops parts order placed ranges risen now ns ts = absurd risen
   grown-from from (p ∷ ps) (row ∷ rows) [] stops parts order placed ranges risen now ns ts = absurd (none-longer (length rows) ns)
-  grown-from from (p ∷ ps) (row ∷ rows) (new ∷ news) [] parts order placed ranges risen now ns ts = absurd (none-longer (length rows) ts)
-  grown-from from (p ∷ ps) (row ∷ rows) (new ∷ news) (stop ∷ stops) parts order placed ranges risen now ns ts =
+  grown-from from (p ∷ ps) (row ∷ rows) (new ∷ new_output) [] parts order placed ranges risen now ns ts = absurd (none-longer (length rows) ts)
+  grown-from from (p ∷ ps) (row ∷ rows) (new ∷ new_output) (stop ∷ stops) parts order placed ranges risen now ns ts =
       let is = first-part law f rules first records from p ps parts order placed in
       let lo : row.lo ≡ p.row.lo = ap (λ rs. (ith_range rs 0).lo) ranges in
       let hi : row.hi ≡ p.row.hi = ap (λ rs. (ith_range rs 0).hi) ranges in
@@ -76,27 +76,27 @@ module _ (law : FaultsAreOfItems) (f : Function) (rules : RulesRecord) (first : 
       ap (λ s. s ++ before) (skips-of law f rules first records p is)
       ∙ skips-on f first records p.row.lo p.row.at row.at is.placed.at_from risen.0 (omega (arith, to, hi, below))
       ∙ sym (ap (λ n. faults_at first (skips_between (steady f) records n row.at)) lo) in
-      let later = grown-from p.row.hi ps rows news stops (other-parts law f rules first records from p ps parts) order.2 placed.1 (ap (drop 1) ranges) risen.1 now.1
-      (one-less (length news) (length rows) ns) (one-less (length stops) (length rows) ts) in
+      let later = grown-from p.row.hi ps rows new_output stops (other-parts law f rules first records from p ps parts) order.2 placed.1 (ap (drop 1) ranges) risen.1 now.1
+      (one-less (length new_output) (length rows) ns) (one-less (length stops) (length rows) ts) in
       λ i. record { row = row; results = p.results ++ new; skips = skips i; stop = option_map (fault_at first) stop } ∷ later i
 
 pub grown-is : FaultsAreOfItems → GrownIsProgress
-grown-is law f rules first records ps rows news stops parts order placed ranges risen now ns ts = grown-from law f rules first records 0 ps rows news stops parts order placed ranges risen now ns ts
+grown-is law f rules first records ps rows new_output stops parts order placed ranges risen now ns ts = grown-from law f rules first records 0 ps rows new_output stops parts order placed ranges risen now ns ts
 
 -- ---- INTERVALS
 
-follows-so : FaultsAreOfItems → (job : Job) (functions : Functions) (f : Function) (limits : Limits) (number : ℕ) (items : List (List ℕ)) (at : Place) (rows : List Row) (shares : List (List (List ℕ))) (stops : List (Option Note))
-    (new : List Progress) → grown at.partitions new ≡ progresses_of f (first_of job number) items rows shares stops → at.begun ≡ true → functions at.stamp ≡ f → AreRaised at.limits limits
-    → ranges_of rows ≡ even_ranges (length items) job.partitions → IsSoFar (steady f) items rows shares → FollowRules (steady f) (rules_of job limits) items rows
+follows-so : FaultsAreOfItems → (job : Job) (functions : Functions) (f : Function) (limits : Limits) (number : ℕ) (items : List (List ℕ)) (at : SliceState) (rows : List Row) (partition_results : List (List (List ℕ))) (stops : List (Option Note))
+    (new : List Progress) → grown at.partitions new ≡ progresses_of f (first_of job number) items rows partition_results stops → at.begun ≡ true → functions at.stamp ≡ f → AreRaised at.limits limits
+    → ranges_of rows ≡ even_ranges (length items) job.partitions → IsSoFar (steady f) items rows partition_results → FollowRules (steady f) (rules_of job limits) items rows
     → ArePlaced rows → AreStopsNamed f (rules_of job limits) items rows stops
     → IsInterval job functions number items at (record { limits = limits; partitions = new })
-follows-so law job functions f limits number items at rows shares stops new grows begun is raised ranges so-far follow placed named =
+follows-so law job functions f limits number items at rows partition_results stops new grows begun is raised ranges so-far follow placed named =
     let first = first_of job number in
     let rules = rules_of job limits in
-    let ps = progresses_of f first items rows shares stops in
-    let same = have-rows f first items (begins_of rows) rows shares stops (length-map rows (λ (row : Row). row.lo)) (as-many (IsShare (steady f) items) rows shares so-far.each)
+    let ps = progresses_of f first items rows partition_results stops in
+    let same = have-rows f first items (begins_of rows) rows partition_results stops (length-map rows (λ (row : Row). row.lo)) (as-many (IsPartitionResult (steady f) items) rows partition_results so-far.each)
     (as-many (IsStopNamed f rules items) rows stops named) in
-    let parts = rows-so-far law f rules first items rows shares stops so-far follow placed named in
+    let parts = rows-so-far law f rules first items rows partition_results stops so-far follow placed named in
     record {
       begun = begun;
       raised = raised;
@@ -105,16 +105,16 @@ follows-so law job functions f limits number items at rows shares stops new grow
     }
 
 pub first-follow : FaultsAreOfItems → FirstIntervalsFollow
-first-follow law job functions f limits number items at rows shares stops begun none is raised ranges so-far follow placed named =
-    let new = progresses_of f (first_of job number) items rows shares stops in
-    follows-so law job functions f limits number items at rows shares stops new (ap (λ ps. grown ps new) none) begun is raised ranges so-far follow placed named
+first-follow law job functions f limits number items at rows partition_results stops begun none is raised ranges so-far follow placed named =
+    let new = progresses_of f (first_of job number) items rows partition_results stops in
+    follows-so law job functions f limits number items at rows partition_results stops new (ap (λ ps. grown ps new) none) begun is raised ranges so-far follow placed named
 
 pub later-follow : FaultsAreOfItems → LaterIntervalsFollow
-later-follow law job functions f limits number items at rows news stops begun here were some is raised before risen ns ranges so-far follow placed named =
+later-follow law job functions f limits number items at rows new_output stops begun here were some is raised before risen ns ranges so-far follow placed named =
     let first = first_of job number in
-    let shares = stretches.grown (results_in at.partitions) news in
+    let partition_results = stretches.grown (results_in at.partitions) new_output in
     let even : ranges_of (rows_in at.partitions) ≡ even_ranges (length items) job.partitions = sym (ranges-in at.partitions) ∙ were in
     let parts = subst (λ g. ArePartitionsSoFar g (rules_of job at.limits) first 0 items at.partitions) is here in
-    let grows = grown-is law f (rules_of job at.limits) first items at.partitions rows news stops parts (even-order (length items) job.partitions (rows_in at.partitions) some even) before
+    let grows = grown-is law f (rules_of job at.limits) first items at.partitions rows new_output stops parts (even-order (length items) job.partitions (rows_in at.partitions) some even) before
     (ranges ∙ sym even) risen placed ns (as-many (IsStopNamed f (rules_of job limits) items) rows stops named) in
-    follows-so law job functions f limits number items at rows shares stops (progresses_since f first items (places_of (rows_in at.partitions)) rows news stops) grows begun is raised ranges so-far follow placed named
+    follows-so law job functions f limits number items at rows partition_results stops (progresses_since f first items (places_of (rows_in at.partitions)) rows new_output stops) grows begun is raised ranges so-far follow placed named

@@ -9,7 +9,7 @@ use Rattle.jb_records.specs.Following.{FollowRules, FollowsRules}
 use Rattle.jb_records.specs.Following as rows
 use Rattle.jb_records.specs.FollowingLaws.{FaultsAreOfItems}
 use Rattle.jb_records.specs.Function.{steady}
-use Rattle.jb_records.specs.Shares.{AreRowsInOrder, AreShares, IsShare}
+use Rattle.jb_records.specs.PartitionResults.{AreRowsInOrder, ArePartitionResults, IsPartitionResult}
 use Rattle.jb_records.specs.Skips.{skips_between}
 use Rattle.jb_slices.specs.Checkpoint.{Progress}
 use Rattle.jb_slices.specs.Function.{Fault, Function, ItemsPass, Pass, faults_from, refusal_of}
@@ -54,7 +54,7 @@ module _ (law : FaultsAreOfItems) (f : Function) (rules : RulesRecord) (first : 
         fails = λ pass. stop.fails (subst (Pass rules) (sym (classes-own law f records row.lo row.hi (suc note.number) (suc before) next (omega (arith, to)) below)) pass);
       }
 
-  row-so-far : (row : Row) (share : List (List ℕ)) (stop : Option Note) → IsPlaced row → row.hi ≤ length records → IsShare (steady f) records row share → FollowsRules (steady f) rules records row
+  row-so-far : (row : Row) (share : List (List ℕ)) (stop : Option Note) → IsPlaced row → row.hi ≤ length records → IsPartitionResult (steady f) records row share → FollowsRules (steady f) rules records row
       → IsStopNamed f rules records row stop → IsPartitionSoFar f rules (first + row.lo) (own-of records row) (progress_of f first records row share stop)
   row-so-far row share stop placed below is follows named =
       let from = placed.at_from in
@@ -88,7 +88,7 @@ module _ (law : FaultsAreOfItems) (f : Function) (rules : RulesRecord) (first : 
       ∙ ap (faults_from f (first + p.row.lo)) (take-less (p.row.at - p.row.lo) (p.row.hi - p.row.lo) (drop p.row.lo records) (omega (arith, from, to)))
       ∙ sym (skips-items f first records p.row.lo p.row.at from (omega (arith, to, below)))
 
-  part-share : (p : Progress) → IsPlaced p.row → p.row.hi ≤ length records → IsPartitionSoFar f rules (first + p.row.lo) (own-of records p.row) p → IsShare (steady f) records p.row p.results
+  part-share : (p : Progress) → IsPlaced p.row → p.row.hi ≤ length records → IsPartitionSoFar f rules (first + p.row.lo) (own-of records p.row) p → IsPartitionResult (steady f) records p.row p.results
   part-share p placed below part = record {
     results = part.results ∙ sym (results-own f records p.row.lo p.row.hi p.row.at placed.at_from placed.at_to below);
     number = sym part.written;
@@ -147,12 +147,12 @@ module _ (law : FaultsAreOfItems) (f : Function) (rules : RulesRecord) (first : 
   order-rises from to [] order = omega (arith, order)
   order-rises from to (row ∷ rs) order = let here = order.1 in let later = order-rises row.hi to rs order.2 in omega (arith, here, later)
 
-  rows-parts : (from : ℕ) (rs : List Row) (shares : List (List (List ℕ))) (stops : List (Option Note)) → AreRowsInOrder from (length records) rs → AreShares (steady f) records rs shares
-      → FollowRules (steady f) rules records rs → ArePlaced rs → AreStopsNamed f rules records rs stops → ArePartitionsSoFar f rules first from (drop from records) (progresses_of f first records rs shares stops)
-  rows-parts from [] shares stops order are follow placed named = drop_all from records (omega (arith, order))
+  rows-parts : (from : ℕ) (rs : List Row) (partition_results : List (List (List ℕ))) (stops : List (Option Note)) → AreRowsInOrder from (length records) rs → ArePartitionResults (steady f) records rs partition_results
+      → FollowRules (steady f) rules records rs → ArePlaced rs → AreStopsNamed f rules records rs stops → ArePartitionsSoFar f rules first from (drop from records) (progresses_of f first records rs partition_results stops)
+  rows-parts from [] partition_results stops order are follow placed named = drop_all from records (omega (arith, order))
   rows-parts from (row ∷ rs) [] stops order are follow placed named = absurd are
-  rows-parts from (row ∷ rs) (share ∷ shares) [] order are follow placed named = absurd named
-  rows-parts from (row ∷ rs) (share ∷ shares) (stop ∷ stops) order are follow placed named =
+  rows-parts from (row ∷ rs) (share ∷ partition_results) [] order are follow placed named = absurd named
+  rows-parts from (row ∷ rs) (share ∷ partition_results) (stop ∷ stops) order are follow placed named =
       let here = order.1 in
       let below = order-rises row.hi (length records) rs order.2 in
       let on : from + (row.hi - from) ≡ row.hi = omega (arith, here) in (
@@ -160,8 +160,8 @@ module _ (law : FaultsAreOfItems) (f : Function) (rules : RulesRecord) (first : 
         here,
         subst (λ n. IsPartitionSoFar f rules (first + n) (take (row.hi - n) (drop n records)) (progress_of f first records row share stop)) order.0
             (row-so-far row share stop placed.0 below are.0 follow.0 named.0),
-        subst (λ items. ArePartitionsSoFar f rules first row.hi items (progresses_of f first records rs shares stops)) (sym (drop-drop from (row.hi - from) row.hi records on))
-            (rows-parts row.hi rs shares stops order.2 are.1 follow.1 placed.1 named.1),
+        subst (λ items. ArePartitionsSoFar f rules first row.hi items (progresses_of f first records rs partition_results stops)) (sym (drop-drop from (row.hi - from) row.hi records on))
+            (rows-parts row.hi rs partition_results stops order.2 are.1 follow.1 placed.1 named.1),
       )
 
   -- each partition by itself
@@ -188,12 +188,12 @@ module _ (law : FaultsAreOfItems) (f : Function) (rules : RulesRecord) (first : 
   pub skips-of : (p : Progress) → IsPart p → p.skips ≡ faults_at first (skips_between (steady f) records p.row.lo p.row.at)
   skips-of p is = part-skips p is.placed is.below is.part
 
-  parts-shares : (from : ℕ) (ps : List Progress) → ArePartitionsSoFar f rules first from (drop from records) ps → AreRowsInOrder from (length records) (rows_in ps) → ArePlaced (rows_in ps)
-      → AreShares (steady f) records (rows_in ps) (results_in ps)
-  parts-shares from [] parts order placed = tt
-  parts-shares from (p ∷ ps) parts order placed =
+  parts-partition_results : (from : ℕ) (ps : List Progress) → ArePartitionsSoFar f rules first from (drop from records) ps → AreRowsInOrder from (length records) (rows_in ps) → ArePlaced (rows_in ps)
+      → ArePartitionResults (steady f) records (rows_in ps) (results_in ps)
+  parts-partition_results from [] parts order placed = tt
+  parts-partition_results from (p ∷ ps) parts order placed =
       let is = first-part from p ps parts order placed in
-      (part-share p is.placed is.below is.part, parts-shares p.row.hi ps (other-parts from p ps parts) order.2 placed.1)
+      (part-share p is.placed is.below is.part, parts-partition_results p.row.hi ps (other-parts from p ps parts) order.2 placed.1)
 
   parts-follow : (from : ℕ) (ps : List Progress) → ArePartitionsSoFar f rules first from (drop from records) ps → AreRowsInOrder from (length records) (rows_in ps) → ArePlaced (rows_in ps)
       → FollowRules (steady f) rules records (rows_in ps)
@@ -203,10 +203,10 @@ module _ (law : FaultsAreOfItems) (f : Function) (rules : RulesRecord) (first : 
       (part-follows p is.placed is.below is.part, parts-follow p.row.hi ps (other-parts from p ps parts) order.2 placed.1)
 
 pub rows-so-far : FaultsAreOfItems → RowsAreSoFar
-rows-so-far law f rules first records rs shares stops so-far follow placed named = rows-parts law f rules first records 0 rs shares stops so-far.order so-far.each follow placed named
+rows-so-far law f rules first records rs partition_results stops so-far follow placed named = rows-parts law f rules first records 0 rs partition_results stops so-far.order so-far.each follow placed named
 
 pub so-far-rows : FaultsAreOfItems → SoFarAreRows
 so-far-rows law f rules first records ps parts order placed = (
-  record { order = order; each = parts-shares law f rules first records 0 ps parts order placed },
+  record { order = order; each = parts-partition_results law f rules first records 0 ps parts order placed },
   parts-follow law f rules first records 0 ps parts order placed,
 )

@@ -2,7 +2,7 @@
 use Rattle.std.proofs.Common.{ℕ, ◌≡◌, List, [], ◌∷◌, ◌++◌, length, map, Result, Ok, refl, sym, ap, ap₂, subst, ◌∙◌}
 use Rattle.std.proofs.lemmas.List.{length-map}
 use Rattle.jb_base.proofs.Pairwise.{pairwise-push}
-use Rattle.jb_slice_file.specs.Kept.{Kept}
+use Rattle.jb_slice_file.specs.CheckpointBytes.{CheckpointBytes}
 use Rattle.jb_slice_run.specs.Coding.{IsCodingOf, coded_number}
 use Rattle.jb_rules.specs.declared.row.Row.{Row}
 use Rattle.jb_saved.specs.SavedRows.{SavedRows}
@@ -11,60 +11,60 @@ use Rattle.jb_slices.specs.Checkpoint.{Begins, Checkpoint, GoesOn, Header, Inter
 use Rattle.jb_slices.specs.Job.{Limits}
 use Rattle.jb_slices.specs.Slice.{IsSliceSoFar}
 use Rattle.jb_slices.specs.SliceLaws.{FrontsAreSoFar, OneMoreFollows}
-use Rattle.jb_slice_run.specs.Kept.{AreKeptAs, IsHeaderKept, IsIntervalKept, IsKeptAs, lists_of}
-use Rattle.jb_slice_run.specs.Laws.{EachIsKeptAsOne, FrontsAreKept, KeptAsOne, OneMoreIsKept}
-use Rattle.jb_slice_run.specs.Strings.{News, all_news, header_lists, interval_lists}
+use Rattle.jb_slice_run.specs.SliceBytes.{AreStoredAs, IsHeaderStored, IsIntervalStored, IsStoredAs, lists_of}
+use Rattle.jb_slice_run.specs.Laws.{EachIsStoredAsOne, FrontsAreStored, StoredAsOne, OneMoreIsStored}
+use Rattle.jb_slice_run.specs.Strings.{NewOutput, all_new_output, header_lists, interval_lists}
 use Rattle.jb_slice_run.proofs.Codings.{one_to_one}
-use Rattle.jb_slice_run.proofs.Once.{head_of, header_once, limits_once, news_once, tail_of}
+use Rattle.jb_slice_run.proofs.Once.{head_of, header_once, limits_once, new_output_once, tail_of}
 
 ok_once : (x y : SavedRows) → ◌≡◌ {A = Result SavedRows SavedPlace} (Ok x) (Ok y) → x ≡ y
 ok_once x y e = cc
 
 -- partitions are their rows and their news
-progress_once : (ps qs : List Progress) → map (λ (p : Progress). p.row) ps ≡ map (λ (p : Progress). p.row) qs → all_news ps ≡ all_news qs → ps ≡ qs
-progress_once [] [] rows news = refl
-progress_once [] (q ∷ qs) rows news = let none : ⊥ = cc in absurd none
-progress_once (p ∷ ps) [] rows news = let none : ⊥ = cc in absurd none
-progress_once (p ∷ ps) (q ∷ qs) rows news =
-    let news-first = head_of _ _ _ _ news in
+progress_once : (ps qs : List Progress) → map (λ (p : Progress). p.row) ps ≡ map (λ (p : Progress). p.row) qs → all_new_output ps ≡ all_new_output qs → ps ≡ qs
+progress_once [] [] rows new_output = refl
+progress_once [] (q ∷ qs) rows new_output = let none : ⊥ = cc in absurd none
+progress_once (p ∷ ps) [] rows new_output = let none : ⊥ = cc in absurd none
+progress_once (p ∷ ps) (q ∷ qs) rows new_output =
+    let new_output-first = head_of _ _ _ _ new_output in
     let one : p ≡ q =
     ap (λ (r : Row). record p { row = r }) (head_of _ _ _ _ rows)
-    ∙ ap (λ (n : News). record { row = q.row; results = n.results; skips = n.skips; stop = n.stop }) news-first in
-    ap₂ ◌∷◌ one (progress_once ps qs (tail_of _ _ _ _ rows) (tail_of _ _ _ _ news))
+    ∙ ap (λ (n : NewOutput). record { row = q.row; results = n.results; skips = n.skips; stop = n.stop }) new_output-first in
+    ap₂ ◌∷◌ one (progress_once ps qs (tail_of _ _ _ _ rows) (tail_of _ _ _ _ new_output))
 
-headers : (h k : Header) (kept : Kept) → IsHeaderKept h kept → IsHeaderKept k kept → h ≡ k
+headers : (h k : Header) (kept : CheckpointBytes) → IsHeaderStored h kept → IsHeaderStored k kept → h ≡ k
 headers h k kept a b = header_once h k a.small b.small (one_to_one kept.results 10 (header_lists h) (header_lists k) a.lists b.lists)
 
-module _ (i j : Interval) (kept : Kept) (a : IsIntervalKept i kept) (b : IsIntervalKept j kept) where
+module _ (i j : Interval) (kept : CheckpointBytes) (a : IsIntervalStored i kept) (b : IsIntervalStored j kept) where
   rows : map (λ (p : Progress). p.row) i.partitions ≡ map (λ (p : Progress). p.row) j.partitions
   rows = sym a.rows ∙ ap (λ (s : SavedRows). s.rows) (ok_once a.held b.held (sym a.read ∙ b.read)) ∙ b.rows
 
   lengths : length i.partitions ≡ length j.partitions
   lengths = sym (length-map i.partitions (λ (p : Progress). p.row)) ∙ ap length rows ∙ length-map j.partitions (λ (p : Progress). p.row)
 
-  lists : interval_lists i.limits (all_news i.partitions) ≡ interval_lists j.limits (all_news j.partitions)
-  lists = one_to_one kept.results (lists_of (length j.partitions)) (interval_lists i.limits (all_news i.partitions)) (interval_lists j.limits (all_news j.partitions))
-      (subst (λ (n : ℕ). IsCodingOf kept.results (lists_of n) (interval_lists i.limits (all_news i.partitions))) lengths a.lists) b.lists
+  lists : interval_lists i.limits (all_new_output i.partitions) ≡ interval_lists j.limits (all_new_output j.partitions)
+  lists = one_to_one kept.results (lists_of (length j.partitions)) (interval_lists i.limits (all_new_output i.partitions)) (interval_lists j.limits (all_new_output j.partitions))
+      (subst (λ (n : ℕ). IsCodingOf kept.results (lists_of n) (interval_lists i.limits (all_new_output i.partitions))) lengths a.lists) b.lists
 
   intervals : i ≡ j
   intervals =
       let limits : i.limits ≡ j.limits = limits_once i.limits j.limits a.small b.small (head_of _ _ _ _ lists) in
-      let news : all_news i.partitions ≡ all_news j.partitions = news_once (all_news i.partitions) (all_news j.partitions) a.news_small b.news_small (tail_of _ _ _ _ lists) in
-      let partitions : i.partitions ≡ j.partitions = progress_once i.partitions j.partitions rows news in
+      let new_output : all_new_output i.partitions ≡ all_new_output j.partitions = new_output_once (all_new_output i.partitions) (all_new_output j.partitions) a.new_output_small b.new_output_small (tail_of _ _ _ _ lists) in
+      let partitions : i.partitions ≡ j.partitions = progress_once i.partitions j.partitions rows new_output in
       ap (λ (l : Limits). record i { limits = l }) limits ∙ ap (λ (ps : List Progress). record j { partitions = ps }) partitions
 
 -- the first list of a header has one string, and that of an interval three
-apart : (h : Header) (i : Interval) (kept : Kept) → IsHeaderKept h kept → IsIntervalKept i kept → ⊥
+apart : (h : Header) (i : Interval) (kept : CheckpointBytes) → IsHeaderStored h kept → IsIntervalStored i kept → ⊥
 unfolding coded_number
 apart h i kept a b = let same = sym a.lists.coding ∙ b.lists.coding in cc
 
-pub each_once : EachIsKeptAsOne
+pub each_once : EachIsStoredAsOne
 each_once (Begins h) (Begins k) kept a b = ap Begins (headers h k kept a b)
 each_once (Begins h) (GoesOn j) kept a b = absurd (apart h j kept a b)
 each_once (GoesOn i) (Begins k) kept a b = absurd (apart k i kept b a)
 each_once (GoesOn i) (GoesOn j) kept a b = ap GoesOn (intervals i j kept a b)
 
-pub all_once : KeptAsOne
+pub all_once : StoredAsOne
 all_once [] [] [] a b = refl
 all_once [] [] (k ∷ ks) a b = absurd a
 all_once [] (d ∷ ds) [] a b = absurd b
@@ -75,28 +75,28 @@ all_once (c ∷ cs) (d ∷ ds) (k ∷ ks) a b = ap₂ ◌∷◌ (each_once c d k
 
 -- ---- a front
 
-pub split_kept : (cs : List Checkpoint) (all more : List Kept) → AreKeptAs cs (all ++ more)
-    → (ds : List Checkpoint) × (es : List Checkpoint) × (cs ≡ ds ++ es) × AreKeptAs ds all
+pub split_kept : (cs : List Checkpoint) (all more : List CheckpointBytes) → AreStoredAs cs (all ++ more)
+    → (ds : List Checkpoint) × (es : List Checkpoint) × (cs ≡ ds ++ es) × AreStoredAs ds all
 split_kept cs [] more kept = ([], cs, refl, tt)
 split_kept [] (k ∷ all) more kept = absurd kept
 split_kept (c ∷ cs) (k ∷ all) more kept =
     let rest = split_kept cs all more kept.1 in
     (c ∷ rest.0, rest.1, ap (λ ds. c ∷ ds) rest.2, (kept.0, rest.3))
 
-pub fronts : FrontsAreSoFar → FrontsAreKept
+pub fronts : FrontsAreSoFar → FrontsAreStored
 fronts so job functions number items all more keeps =
-    let parts = split_kept keeps.checkpoints all more keeps.kept_as in
+    let parts = split_kept keeps.checkpoints all more keeps.stored_as in
     record {
       checkpoints = parts.0;
-      kept_as = parts.3;
+      stored_as = parts.3;
       so_far = so job functions number items parts.0 parts.1 (subst (λ (cs : List Checkpoint). IsSliceSoFar job functions number items cs) parts.2 keeps.so_far);
     }
 
 -- ---- one more
 
-pub one_more : OneMoreFollows → OneMoreIsKept
+pub one_more : OneMoreFollows → OneMoreIsStored
 one_more so job functions number items all c next keeps follows kept = record {
   checkpoints = keeps.checkpoints ++ c ∷ [];
-  kept_as = pairwise-push IsKeptAs keeps.checkpoints all c next keeps.kept_as kept;
+  stored_as = pairwise-push IsStoredAs keeps.checkpoints all c next keeps.stored_as kept;
   so_far = so job functions number items keeps.checkpoints c keeps.so_far follows;
 }

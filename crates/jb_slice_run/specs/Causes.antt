@@ -3,21 +3,21 @@ use Rattle.std.specs.Prelude.{ℕ, ◌≡◌, ◌≤◌, ◌⊎◌, ◌+◌, ◌
 use Rattle.jb_records.specs.declared.error.RecordsStepError.{RecordsStepError}
 use Rattle.jb_records.specs.declared.error.RecordsStepError.TheVariants as fault
 use Rattle.jb_records.specs.declared.step.RecordsStep.{RecordsStep}
-use Rattle.jb_records.specs.Causes.{AreOtherShares, IsCauseOf}
+use Rattle.jb_records.specs.Causes.{AreOtherPartitionResults, IsCauseOf}
 use Rattle.jb_records.specs.Function.{steady}
-use Rattle.jb_records.specs.Stretches.{IsBrokenOff}
+use Rattle.jb_records.specs.Intervals.{IsBrokenOff}
 use Rattle.jb_slice_run.specs.Coding.{AreCodable}
-use Rattle.jb_slice_file.specs.Kept.{Kept}
+use Rattle.jb_slice_file.specs.CheckpointBytes.{CheckpointBytes}
 use Rattle.jb_slices.specs.Checkpoint.{Begins, Checkpoint, GoesOn, Header, Interval}
 use Rattle.jb_slices.specs.Function.{Function}
 use Rattle.jb_slices.specs.Job.{AreRaised, Job, Limits, first_of}
-use Rattle.jb_slices.specs.Slice.{Functions, IsNext, place_of}
+use Rattle.jb_slices.specs.Slice.{Functions, IsNext, slice_state}
 use Rattle.jb_slice_run.specs.Held.{limits_in}
 use Rattle.jb_slice_run.specs.Jobs.{job_in, kept_stamps, own_header}
-use Rattle.jb_slice_run.specs.Kept.{AreKeptAs, IsKeptAs, KeepsSlice}
+use Rattle.jb_slice_run.specs.SliceBytes.{AreStoredAs, IsStoredAs, KeepsSlice}
 use Rattle.jb_slice_run.specs.Refusals.{IsHeaderCause, IsOwn}
 use Rattle.jb_slice_run.specs.Step.{IsStepOfSlice}
-use Rattle.jb_slice_run.specs.Strings.{all_news, header_lists, interval_lists}
+use Rattle.jb_slice_run.specs.Strings.{all_new_output, header_lists, interval_lists}
 use Rattle.jb_slice_run.specs.Work.{AreItemsShort}
 use Rattle.jb_slice_run.specs.declared.error.SliceError.{SliceError}
 use Rattle.jb_slice_run.specs.declared.error.SliceError.TheVariants.{Damaged, LoweredLimit, Memory, TooLong}
@@ -27,77 +27,78 @@ use Rattle.jb_slice_run.specs.declared.run_error.SliceRunError.TheVariants.{Chec
 
 -- ---- AN INTERVAL
 
--- an interval that may follow has no bytes: a string of its is too long, or there are too many
-pub record HasNoBytes (job : Job) (functions : Functions) (number : ℕ) (items : List (List ℕ)) (all : List Kept) : Type 0 where
+-- an interval that may follow has no bytes: one of its strings is too long, or there are too many
+pub record HasNoBytes (job : Job) (functions : Functions) (number : ℕ) (items : List (List ℕ)) (all : List CheckpointBytes) : Type 0 where
   pub checkpoints : List Checkpoint
-  pub kept_as : AreKeptAs checkpoints all
+  pub stored_as : AreStoredAs checkpoints all
   pub interval : Interval
-  pub follows : IsNext job functions number items (place_of checkpoints) (GoesOn interval)
-  pub long : AreCodable (interval_lists interval.limits (all_news interval.partitions)) → ⊥
+  pub follows : IsNext job functions number items (slice_state checkpoints) (GoesOn interval)
+  pub long : AreCodable (interval_lists interval.limits (all_new_output interval.partitions)) → ⊥
 
--- the slice's items have no numbers below 2^64
+-- the number after the slice's last item isn't below 2^64
 abbrev pub AreTooMany : Job → (number items : ℕ) → Type 0
 AreTooMany job number items = 2 ^ 64 ≤ first_of job number + items
 
 -- WHY AN INTERVAL HAS NO CHECKPOINT
-abbrev pub IsIntervalCause : Job → Functions → (number : ℕ) → (items : List (List ℕ)) → List Kept → SliceRunError → Type 0
+abbrev pub IsIntervalCause : Job → Functions → (number : ℕ) → (items : List (List ℕ)) → List CheckpointBytes → SliceRunError → Type 0
 IsIntervalCause job functions number items all (Checkpoints TooLong) = HasNoBytes job functions number items all
 IsIntervalCause job functions number items all (Checkpoints Memory) = ⊤
 IsIntervalCause job functions number items all (Checkpoints e) = ⊥
 IsIntervalCause job functions number items all (Step why) = IsBrokenOff why
 IsIntervalCause job functions number items all TooMany = AreTooMany job number (length items)
 
--- a refusal that isn't one of checkpoints that are kept
-abbrev pub IsOfInterval : SliceRunError → Type 0
-IsOfInterval (Checkpoints TooLong) = ⊤
-IsOfInterval (Checkpoints Memory) = ⊤
-IsOfInterval (Checkpoints e) = ⊥
-IsOfInterval (Step why) = ⊤
-IsOfInterval TooMany = ⊤
+-- an error that isn't a refusal of the stored checkpoints
+abbrev pub IsIntervalError : SliceRunError → Type 0
+IsIntervalError (Checkpoints TooLong) = ⊤
+IsIntervalError (Checkpoints Memory) = ⊤
+IsIntervalError (Checkpoints e) = ⊥
+IsIntervalError (Step why) = ⊤
+IsIntervalError TooMany = ⊤
 
 -- ---- A SLICE THAT ISN'T RESUMED
 
--- for this reason the first checkpoint is refused, whatever header it keeps
-abbrev pub IsRefusedBy : (own : Header) → (stamps : List (List ℕ)) → List Kept → SliceError → Type 0
+-- the first checkpoint is refused for this reason, for each header that it may store
+abbrev pub IsRefusedBy : (own : Header) → (stamps : List (List ℕ)) → List CheckpointBytes → SliceError → Type 0
 IsRefusedBy own stamps [] e = ⊥
-IsRefusedBy own stamps (first ∷ later) e = (h : Header) → IsKeptAs (Begins h) first → IsHeaderCause own stamps h e
+IsRefusedBy own stamps (first ∷ later) e = (h : Header) → IsStoredAs (Begins h) first → IsHeaderCause own stamps h e
 
 -- the first checkpoint, if there is one, is our own
-abbrev pub IsFirstOwn : (own : Header) → (stamps : List (List ℕ)) → List Kept → Type 0
+abbrev pub IsFirstOwn : (own : Header) → (stamps : List (List ℕ)) → List CheckpointBytes → Type 0
 IsFirstOwn own stamps [] = ⊤
-IsFirstOwn own stamps (first ∷ later) = (h : Header) → IsKeptAs (Begins h) first → IsOwn own stamps h
+IsFirstOwn own stamps (first ∷ later) = (h : Header) → IsStoredAs (Begins h) first → IsOwn own stamps h
 
 -- a limit is lower than that of the last checkpoint of such a slice
-abbrev pub HasLower : Job → (number : ℕ) → (items : List (List ℕ)) → Limits → List Kept → Type 0
-HasLower job number items limits all = (functions : Functions) (keeps : KeepsSlice job functions number items all) → AreRaised (place_of keeps.checkpoints).limits limits → ⊥
+abbrev pub HasLower : Job → (number : ℕ) → (items : List (List ℕ)) → Limits → List CheckpointBytes → Type 0
+HasLower job number items limits all = (functions : Functions) (keeps : KeepsSlice job functions number items all) → AreRaised (slice_state keeps.checkpoints).limits limits → ⊥
 
--- they keep no slice of this job, under this number and over these items
-abbrev pub AreDamaged : Job → (number : ℕ) → (items : List (List ℕ)) → List Kept → Type 0
+-- they store no slice of this job with this number and these items
+abbrev pub AreDamaged : Job → (number : ℕ) → (items : List (List ℕ)) → List CheckpointBytes → Type 0
 AreDamaged job number items all = (functions : Functions) → KeepsSlice job functions number items all → ⊥
 
 -- its own header has no bytes
 abbrev pub IsHeaderLong : (own : Header) → (items : List (List ℕ)) → Type 0
 IsHeaderLong own items = (AreItemsShort items → ⊥) ⊎ (AreCodable (header_lists own) → ⊥)
 
--- the results that the checkpoints have are others in number than the rows of the last text say, or that isn't one
+-- `Results`: the number of some partition's results isn't what its row of the last text says, or there are results of other partitions. Any other
+-- error has the step's cause for this text.
 abbrev pub IsCauseAfter : Function → RecordsStep → (items : List (List ℕ)) → (text : List ℕ) → RecordsStepError → Type 0
-IsCauseAfter f step items text fault.Results = (shares : List (List (List ℕ))) × AreOtherShares text shares
+IsCauseAfter f step items text fault.Results = (partition_results : List (List (List ℕ))) × AreOtherPartitionResults text partition_results
 IsCauseAfter f step items text e = IsCauseOf (steady f) step items (Some (text, [])) e
 
--- the step isn't begun: at the first items if no interval is kept, else after the last one
-pub record IsUnbegunAfter (f : Function) (step : RecordsStep) (items : List (List ℕ)) (all : List Kept) (why : RecordsStepError) : Type 0 where
-  pub before : List Kept
-  pub last : Kept
+-- why the step can't start: after the last interval if one is stored, else at the first items
+pub record IsUnbegunAfter (f : Function) (step : RecordsStep) (items : List (List ℕ)) (all : List CheckpointBytes) (why : RecordsStepError) : Type 0 where
+  pub before : List CheckpointBytes
+  pub last : CheckpointBytes
   pub last_is : all ≡ before ++ last ∷ []
   pub cause : IsCauseAfter f step items last.saved why
 
-pub record IsUnbegun (job : SliceJob) (f : Function) (items : List (List ℕ)) (all : List Kept) (why : RecordsStepError) : Type 0 where
+pub record IsUnbegun (job : SliceJob) (f : Function) (items : List (List ℕ)) (all : List CheckpointBytes) (why : RecordsStepError) : Type 0 where
   pub step : RecordsStep
   pub step_is : IsStepOfSlice (job_in job) (limits_in job.limits) job.threads step
   pub cause : IsCauseOf (steady f) step items None why ⊎ IsUnbegunAfter f step items all why
 
 -- WHY A SLICE ISN'T RESUMED
-abbrev pub IsResumeCause : SliceJob → Function → (number : ℕ) → (items : List (List ℕ)) → List Kept → SliceRunError → Type 0
+abbrev pub IsResumeCause : SliceJob → Function → (number : ℕ) → (items : List (List ℕ)) → List CheckpointBytes → SliceRunError → Type 0
 IsResumeCause job f number items all (Checkpoints Damaged) = AreDamaged (job_in job) number items all
 IsResumeCause job f number items all (Checkpoints LoweredLimit) = HasLower (job_in job) number items (limits_in job.limits) all
 IsResumeCause job f number items all (Checkpoints TooLong) = IsHeaderLong (own_header job number items) items

@@ -33,7 +33,7 @@ pub record IsCodable (list : List (List ℕ)) : Type 0 where
 abbrev pub AreCodable : List (List (List ℕ)) → Type 0
 AreCodable lists = AllByRecursion (λ list. IsCodable list) lists
 
--- these bytes are the coding of so many lists, these
+-- these bytes are the coding of these lists, `count` in number
 pub record IsCodingOf (bytes : List ℕ) (count : ℕ) (lists : List (List (List ℕ))) : Type 0 where
   pub codable : AreCodable lists
   pub coding : bytes ≡ coded lists
@@ -41,7 +41,7 @@ pub record IsCodingOf (bytes : List ℕ) (count : ℕ) (lists : List (List (List
 
 -- ---- while bytes are read
 
--- so many strings were read; this is left
+-- `count` strings were read; `rest` is left
 pub record AreStringsRead (strings : List (List ℕ)) (bytes rest : List ℕ) (count : ℕ) : Type 0 where
   pub number : length strings ≡ count
   pub short : AllByRecursion (λ s. IsShort s) strings
@@ -52,7 +52,7 @@ pub record IsListRead (list : List (List ℕ)) (bytes rest : List ℕ) : Type 0 
   pub codable : IsCodable list
   pub left : bytes ≡ coded_list list ++ rest
 
--- so many lists were
+-- `count` lists were read
 pub record AreListsRead (lists : List (List (List ℕ))) (bytes rest : List ℕ) (count : ℕ) : Type 0 where
   pub number : length lists ≡ count
   pub codable : AreCodable lists

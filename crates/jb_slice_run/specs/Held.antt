@@ -4,13 +4,13 @@ use Rattle.std.specs.List.{AllByRecursion}
 use Rattle.jb_slices.specs.Checkpoint.{Begins, Checkpoint, GoesOn, Header}
 use Rattle.jb_slices.specs.Function.{Fault}
 use Rattle.jb_slices.specs.Job.{Limits}
-use Rattle.jb_slices.specs.Slice.{place_of}
-use Rattle.jb_slice_run.specs.Strings.{News, all_news}
+use Rattle.jb_slices.specs.Slice.{slice_state}
+use Rattle.jb_slice_run.specs.Strings.{NewOutput, all_new_output}
 use Rattle.jb_slice_run.specs.declared.fault.Fault.{Fault as HeldFault}
 use Rattle.jb_slice_run.specs.declared.header.SliceHeader.{SliceHeader}
 use Rattle.jb_slice_run.specs.declared.header.SliceLimits.{SliceLimits}
-use Rattle.jb_slice_run.specs.declared.news.HeldSlice.{HeldSlice}
-use Rattle.jb_slice_run.specs.declared.news.PartitionNews.{PartitionNews}
+use Rattle.jb_slice_run.specs.declared.partition_output.HeldSlice.{HeldSlice}
+use Rattle.jb_slice_run.specs.declared.partition_output.PartitionOutput.{PartitionOutput}
 
 abbrev pub fault_in : HeldFault → Fault
 fault_in fault = record { number = fault.number; class = fault.class }
@@ -42,31 +42,31 @@ header_in h = record {
   digest = h.digest;
 }
 
-abbrev pub news_in : PartitionNews → News
-news_in news = record { results = news.results; skips = faults_in news.skips.items; stop = option_map fault_in news.stop }
+abbrev pub new_output_in : PartitionOutput → NewOutput
+new_output_in new_output = record { results = new_output.results; skips = faults_in new_output.skips.items; stop = option_map fault_in new_output.stop }
 
 -- ---- from interval to interval
 
-abbrev pub no_news : News
-no_news = record { results = []; skips = []; stop = None }
+abbrev pub no_new_output : NewOutput
+no_new_output = record { results = []; skips = []; stop = None }
 
--- what is new after what there was; a stop is the last one's
-abbrev pub one_grown : (before new : News) → News
+-- what there was, with what is new after it; the stop is the new one
+abbrev pub one_grown : (before new : NewOutput) → NewOutput
 one_grown before new = record { results = before.results ++ new.results; skips = before.skips ++ new.skips; stop = new.stop }
 
--- the first partitions with what is new of them
-abbrev pub news_grown : (before new : List News) → List News
-news_grown [] new = []
-news_grown (b ∷ bs) [] = b ∷ bs
-news_grown (b ∷ bs) (n ∷ ns) = one_grown b n ∷ news_grown bs ns
+-- the partitions, each with what is new of it
+abbrev pub new_output_grown : (before new : List NewOutput) → List NewOutput
+new_output_grown [] new = []
+new_output_grown (b ∷ bs) [] = b ∷ bs
+new_output_grown (b ∷ bs) (n ∷ ns) = one_grown b n ∷ new_output_grown bs ns
 
-abbrev pub news_next : List News → Checkpoint → List News
-news_next before (Begins h) = before
-news_next before (GoesOn i) = news_grown before (all_news i.partitions)
+abbrev pub new_output_next : List NewOutput → Checkpoint → List NewOutput
+new_output_next before (Begins h) = before
+new_output_next before (GoesOn i) = new_output_grown before (all_new_output i.partitions)
 
-abbrev pub news_led : List News → List Checkpoint → List News
-news_led before [] = before
-news_led before (c ∷ cs) = news_led (news_next before c) cs
+abbrev pub new_output_led : List NewOutput → List Checkpoint → List NewOutput
+new_output_led before [] = before
+new_output_led before (c ∷ cs) = new_output_led (new_output_next before c) cs
 
 abbrev pub limits_next : Limits → Checkpoint → Limits
 limits_next before (Begins h) = before
@@ -76,7 +76,7 @@ abbrev pub limits_led : Limits → List Checkpoint → Limits
 limits_led before [] = before
 limits_led before (c ∷ cs) = limits_led (limits_next before c) cs
 
--- each of the checkpoints is an interval of so many partitions
+-- each of the checkpoints is an interval of `count` partitions
 abbrev pub IsIntervalOf : (count : ℕ) → Checkpoint → Type 0
 IsIntervalOf count (Begins h) = ⊥
 IsIntervalOf count (GoesOn i) = length i.partitions ≡ count
@@ -87,10 +87,10 @@ AreIntervalsOf count cs = AllByRecursion (IsIntervalOf count) cs
 -- WHAT INTERVALS HAVE, after these limits: the last limits, and what is new in all of them, put together
 pub record HasRead (before : Limits) (count : ℕ) (cs : List Checkpoint) (held : HeldSlice) : Type 0 where
   pub limits : limits_in held.limits ≡ limits_led before cs
-  pub news : map news_in held.partitions.items ≡ news_led (replicate count no_news) cs
+  pub new_output : map new_output_in held.partitions.items ≡ new_output_led (replicate count no_new_output) cs
 
--- THE LAW: that is what the place of the slice has
+-- THE LAW: the slice's state has the same
 abbrev pub PlacesAreRead : Type 0
 PlacesAreRead =
     (h : Header) (count : ℕ) (cs : List Checkpoint) → AreIntervalsOf count cs
-    → (limits_led h.limits cs ≡ (place_of (Begins h ∷ cs)).limits) × (cs ≢ [] → news_led (replicate count no_news) cs ≡ all_news (place_of (Begins h ∷ cs)).partitions)
+    → (limits_led h.limits cs ≡ (slice_state (Begins h ∷ cs)).limits) × (cs ≢ [] → new_output_led (replicate count no_new_output) cs ≡ all_new_output (slice_state (Begins h ∷ cs)).partitions)

@@ -1,4 +1,4 @@
--- What a run of a slice goes by, in the terms of the job's definitions.
+-- What a run of a slice needs of its job, in the terms of the job's definitions.
 use Rattle.std.specs.Prelude.{ℕ, List, ◌∷◌, map}
 use Rattle.jb_slices.specs.Checkpoint.{Header, header_of}
 use Rattle.jb_slices.specs.Job.{Job}
@@ -19,14 +19,14 @@ job_in j = record {
   };
 }
 
--- the stamps of the functions that do the same: its own, and those that it keeps
+-- the stamps of functions that do the same: those that the job accepts, and below with its own
 abbrev pub kept_stamps : SliceJob → List (List ℕ)
 kept_stamps j = map (λ stamp. stamp.now) j.stamps.now
 
 abbrev pub stamps_in : SliceJob → List (List ℕ)
 stamps_in j = j.stamp.now ∷ kept_stamps j
 
--- the header with which it begins a slice
+-- the header with which the job begins a slice
 abbrev pub header_with : SliceJob → (number items : ℕ) → (digest : List ℕ) → Header
 header_with j number items digest = record { job = job_in j; limits = limits_in j.limits; stamp = j.stamp.now; number = number; items = items; digest = digest }
 

@@ -3,7 +3,7 @@ pub mod Members
 pub mod Pacing
 pub mod Strings
 pub mod HeaderText
-pub mod Kept
+pub mod SliceBytes
 pub mod Held
 pub mod Refusals
 pub mod Texts
@@ -15,7 +15,7 @@ pub mod RowLaws
 pub mod Example
 pub mod Jobs
 pub mod Work
-pub mod News
+pub mod NewOutput
 pub mod Causes
 pub mod Named
 pub mod durable

@@ -39,14 +39,14 @@ IsHeaderCause own stamps held OtherStamp =
 IsHeaderCause own stamps held _ = ⊥
 
 -- a refusal of a header
-abbrev pub IsOfHeader : SliceError → Type 0
-IsOfHeader (OtherJob part) = ⊤
-IsOfHeader OtherSlice = ⊤
-IsOfHeader OtherItems = ⊤
-IsOfHeader OtherStamp = ⊤
-IsOfHeader _ = ⊥
+abbrev pub IsHeaderRefusal : SliceError → Type 0
+IsHeaderRefusal (OtherJob part) = ⊤
+IsHeaderRefusal OtherSlice = ⊤
+IsHeaderRefusal OtherItems = ⊤
+IsHeaderRefusal OtherStamp = ⊤
+IsHeaderRefusal _ = ⊥
 
--- A HEADER IS OUR OWN, but for its limits; its stamp is ours, or one of those that are kept
+-- A HEADER IS OUR OWN: its limits may differ; its stamp is ours or one of `stamps`
 pub record IsOwn (own : Header) (stamps : List (List ℕ)) (held : Header) : Type 0 where
   pub job_is : own.job ≡ held.job
   pub number_is : own.number ≡ held.number

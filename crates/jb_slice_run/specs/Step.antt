@@ -8,7 +8,7 @@ use Rattle.jb_slices.specs.Function.{Function}
 use Rattle.jb_slices.specs.Job.{Job, Limits, rules_of}
 use Rattle.jb_slices.specs.Slice.{Functions}
 
--- THE STEP OF A SLICE: it has the job's name, partitions and item count, its rules by these limits, and so many threads
+-- THE STEP OF A SLICE: it has the job's name, partitions and item count, the job's rules by these limits, and this many threads
 pub record IsStepOfSlice (job : Job) (limits : Limits) (threads : ℕ) (step : RecordsStep) : Type 0 where
   pub name_is : step.id ≡ job.name
   pub partitions_are : step.partitions ≡ job.partitions
@@ -17,10 +17,10 @@ pub record IsStepOfSlice (job : Job) (limits : Limits) (threads : ℕ) (step : R
   pub rules_are : step.rules ≡ rules_of job limits
 
 -- the function of each of these stamps is this one
-abbrev pub AreOf : Functions → Function → (stamps : List (List ℕ)) → Type 0
-AreOf functions f stamps = AllByRecursion (λ stamp. functions stamp ≡ f) stamps
+abbrev pub AreStampsOf : Functions → Function → (stamps : List (List ℕ)) → Type 0
+AreStampsOf functions f stamps = AllByRecursion (λ stamp. functions stamp ≡ f) stamps
 
--- THE LAW: its ranges are those that a slice's checkpoints are over
+-- THE LAW: the step has the same ranges as a slice's checkpoints
 abbrev pub StepsDivideSlices : Type 0
 StepsDivideSlices =
     (job : Job) (limits : Limits) (threads : ℕ) (step : RecordsStep) (items : ℕ)

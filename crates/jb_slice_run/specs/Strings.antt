@@ -41,25 +41,25 @@ header_lists h =
     ∷ (number_string h.number ∷ []) ∷ (number_string h.items ∷ []) ∷ []
 
 -- what is new of a partition
-pub record News : Type 0 where
+pub record NewOutput : Type 0 where
   pub results : List (List ℕ)
   pub skips : List Fault
   pub stop : Option Fault
 
-abbrev pub news_of : Progress → News
-news_of p = record { results = p.results; skips = p.skips; stop = p.stop }
+abbrev pub new_output_of : Progress → NewOutput
+new_output_of p = record { results = p.results; skips = p.skips; stop = p.stop }
 
-abbrev pub all_news : List Progress → List News
-all_news ps = map news_of ps
+abbrev pub all_new_output : List Progress → List NewOutput
+all_new_output ps = map new_output_of ps
 
 -- three for each
-abbrev pub news_lists : List News → List (List (List ℕ))
-news_lists [] = []
-news_lists (n ∷ ns) = n.results ∷ map fault_string n.skips ∷ stop_list n.stop ∷ news_lists ns
+abbrev pub new_output_lists : List NewOutput → List (List (List ℕ))
+new_output_lists [] = []
+new_output_lists (n ∷ ns) = n.results ∷ map fault_string n.skips ∷ stop_list n.stop ∷ new_output_lists ns
 
 -- THOSE OF AN INTERVAL: its limits, and three for each partition
-abbrev pub interval_lists : Limits → List News → List (List (List ℕ))
-interval_lists limits news = limits_list limits ∷ news_lists news
+abbrev pub interval_lists : Limits → List NewOutput → List (List (List ℕ))
+interval_lists limits new_output = limits_list limits ∷ new_output_lists new_output
 
 -- ---- the numbers fit in their bytes
 
@@ -88,9 +88,9 @@ pub record IsHeaderSmall (h : Header) : Type 0 where
 abbrev pub AreFaultsSmall : List Fault → Type 0
 AreFaultsSmall faults = AllByRecursion (λ (fault : Fault). IsSmall fault.number) faults
 
-pub record IsNewsSmall (n : News) : Type 0 where
+pub record IsOutputSmall (n : NewOutput) : Type 0 where
   pub skips : AreFaultsSmall n.skips
   pub stop : ForSome n.stop (λ (fault : Fault). IsSmall fault.number)
 
-abbrev pub AreNewsSmall : List News → Type 0
-AreNewsSmall news = AllByRecursion IsNewsSmall news
+abbrev pub AreOutputsSmall : List NewOutput → Type 0
+AreOutputsSmall new_output = AllByRecursion IsOutputSmall new_output

@@ -28,7 +28,7 @@ fn read_string(bytes: &[u8]) -> Option<(&[u8], &[u8])>
     Some(rest.split_at(length as usize))
 }
 
-/// Reads so many strings into an empty list, and answers the bytes that are left.
+/// Reads this many strings into an empty list, and returns the bytes that are left.
 fn read_strings<'a>(
     bytes: &'a [u8],
     count: u32,
@@ -49,7 +49,7 @@ fn read_strings<'a>(
     Ok(rest)
 }
 
-/// Reads an empty list's strings, and answers the bytes that are left.
+/// Reads the strings of a list into an empty list, and returns the bytes that are left.
 fn read_list<'a>(bytes: &'a [u8], list: &mut PackedList) -> Result<&'a [u8], SliceError>
     requires { list.now ≡ [] }
     ensures read { IfOk result (λ rest. IsListRead list.new bytes.now rest.now) }
@@ -61,10 +61,10 @@ fn read_list<'a>(bytes: &'a [u8], list: &mut PackedList) -> Result<&'a [u8], Sli
     read_strings(rest, count, list)
 }
 
-/// So many lists, of which these bytes are the coding.
+/// The lists of which these bytes are the coding, if they have this number.
 ///
 /// # Errors
-/// `Damaged` if the bytes aren't the coding of so many lists, and `Memory`.
+/// `Damaged` if the bytes aren't the coding of this many lists, and `Memory`.
 pub(crate) fn read_lists(
     alloc: Global,
     bytes: &[u8],

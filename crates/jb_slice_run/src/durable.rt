@@ -1,22 +1,22 @@
-//! A slice of a job whose checkpoints are kept in a file.
+//! A slice of a job with its checkpoints in a file.
 //!
-//! - `slice`: a slice is run, or its end is collected. `resumed`: where it stands after its checkpoints. `intervals`: one after the other, each kept
-//!   before the next begins, `pause`: why they ended. `end`: how the slice ended, with its faults.
-//! - `lives`: any number of runs, each ended by a crash.
-//! - `onlooker`: who is told how far the slice is. `error`: why it has no end. `seen`: a place in memory, as contracts see it.
+//! - `slice`: a slice is run, or its end is collected. `resumed`: the run after the stored checkpoints. `intervals`: one interval after the other,
+//!   each stored before the next begins. `loop_end`: why they ended. `end`: how the slice ended, with its faults.
+//! - `process_runs`: any number of process runs that end in a crash, and a last one.
+//! - `listener`: gets reports of how far the slice is. `error`: why it has no end. `seen`: a run in memory, as contracts see it.
 
 mod end;
 mod error;
 mod intervals;
-mod lives;
-mod onlooker;
-mod pause;
+mod listener;
+mod loop_end;
+mod process_runs;
 mod resumed;
 mod seen;
 mod slice;
 
 pub use end::SliceEnd;
 pub use error::DurableError;
-pub use lives::{LastLife, Meaning, slice_through_crashes};
-pub use onlooker::{Nobody, Onlooker, Progress};
+pub use listener::{NoListener, Progress, ProgressListener};
+pub use process_runs::{LastRun, Meaning, slice_through_crashes};
 pub use slice::{collect_slice, run_slice};

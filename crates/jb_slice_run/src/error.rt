@@ -21,7 +21,7 @@ pub enum IdentityPart {
 /// Why a slice isn't resumed after its checkpoints, or a checkpoint has no bytes.
 #[derive(Clone, Copy, Debug, PartialEq, Eq, Error)]
 pub enum SliceError {
-    /// They are another job's, which differs in this part of its identity.
+    /// They are of another job, which differs in this part of its identity.
     OtherJob(IdentityPart),
     /// They are of another slice of the job.
     OtherSlice,
@@ -35,11 +35,11 @@ pub enum SliceError {
     Damaged,
     /// A string has more than 4,294,967,295 bytes, or a list more strings.
     TooLong,
-    /// There was no memory.
+    /// Out of memory.
     Memory,
 }
 
-/// What is wrong, in a few words.
+/// A short message.
 impl fmt::Display for SliceError {
     ghost output = { slice_error_text };
 

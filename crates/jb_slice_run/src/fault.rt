@@ -9,11 +9,11 @@ pub struct Fault {
     pub class: ClassId,
 }
 
-/// The faults of a partition, by the checkpoints that are kept.
+/// The faults of a partition, by the stored checkpoints.
 #[derive(Drop)]
 pub struct PartitionFaults {
-    /// Those that it skipped.
+    /// The faults that it skipped.
     pub skips: Vec<Fault>,
-    /// The one by which it failed in the last interval.
+    /// The fault by which it failed in the last interval.
     pub stop: Option<Fault>,
 }

@@ -7,12 +7,12 @@ ghost use Rattle.jb_records.specs.Following.{FollowsRules};
 ghost use Rattle.jb_records.specs.Function.{steady};
 ghost use Rattle.jb_records.specs.Skips.{skip_by, skips_between};
 ghost use Rattle.jb_slices.specs.Function.{refusal_of};
-ghost use Rattle.jb_slice_run.specs.Held.{fault_in, faults_in, news_in};
-ghost use Rattle.jb_slice_run.specs.News.{AreNewsOf, CanAllGrow, CanGrow, IsNewsOf, IsStopTold, from_of, skipped_before};
+ghost use Rattle.jb_slice_run.specs.Held.{fault_in, faults_in, new_output_in};
+ghost use Rattle.jb_slice_run.specs.NewOutput.{AreNewOutputsOf, CanAllGrow, CanGrow, IsNewOutputOf, IsStopOfPartition, from_of, skipped_before};
 ghost use Rattle.jb_slice_run.specs.Rows.{fault_at, faults_at};
 
 use crate::fault::Fault;
-use crate::news::PartitionNews;
+use crate::partition_output::PartitionOutput;
 use jb_artifacts::record_of;
 use jb_base::{ClassId, PackedList, Rules};
 use jb_ready::Note;
@@ -21,7 +21,7 @@ use jb_rows::{Outcome, Row as Fields, RowBuilder, RowFunction};
 use jb_rules::Row;
 use std::alloc::{AllocError, Global};
 
-/// The class of the fault with which this item is refused, if it is. The function puts its result together in `built`.
+/// The class of the fault with which this item is refused, if it is refused. The function builds its result in `built`.
 fn refusal_of<F: RowFunction>(
     function: &F,
     item: &[u8],
@@ -36,7 +36,7 @@ fn refusal_of<F: RowFunction>(
     }
 }
 
-/// Puts the fault of the item of this number after the others, if it is refused.
+/// Adds the fault of the item with this number, if the item is refused.
 fn push_fault<F: RowFunction>(
     function: &F,
     items: &PackedList,
@@ -59,7 +59,7 @@ fn push_fault<F: RowFunction>(
     Ok(())
 }
 
-/// The faults of the items from number `lo` to `hi - 1` of a slice, whose first item has the number `first` in the job.
+/// The faults of the items from number `lo` to `hi - 1` of a slice. The slice's first item has the number `first` in the job.
 fn faults_between<F: RowFunction>(
     alloc: Global,
     function: &F,
@@ -100,7 +100,7 @@ fn skips_before(before: Option<&Row>) -> u64
     }
 }
 
-/// The faults that a partition skipped since then. The function is called again on the items between the two checkpoints, if it skipped some.
+/// The faults that a partition skipped since `before`. If it skipped some, the function is called again on the items between the two checkpoints.
 fn new_skips<F: RowFunction>(
     alloc: Global,
     function: &F,
@@ -120,7 +120,7 @@ fn new_skips<F: RowFunction>(
     faults_between(alloc, function, items, first, place_before(before, row), to)
 }
 
-/// A record's fault by the number of its item. Of a record that there isn't it is none.
+/// A record's fault by the number of its item in the job. `None` if there is no such record.
 fn fault_of(note: Option<Note>, first: u64, items: usize) -> Option<Fault>
     requires numbers { first + items < 2 ^ 64 }
     ensures { MatchOption note (option_map fault_in result ≡ None) (λ n. n.number < items → option_map fault_in result ≡ option_map (fault_at first) note) }
@@ -134,7 +134,7 @@ fn fault_of(note: Option<Note>, first: u64, items: usize) -> Option<Fault>
     }
 }
 
-/// The fault by which a partition failed, if it did. The function is called again on the items from its checkpoint up to that one.
+/// The fault by which a partition failed, if it failed. The function is called again on the items from its checkpoint up to the failed one.
 fn stop_in<F: RowFunction>(
     alloc: Global,
     function: &F,
@@ -145,7 +145,7 @@ fn stop_in<F: RowFunction>(
 ) -> Result<Option<Fault>, AllocError>
     requires numbers { first + length items.now < 2 ^ 64 }
     ensures { FollowsRules (steady (F.answer function.now)) rules.now items.now row.now → row.now.hi ≤ length items.now
-        → IfOk result (λ stop. IsStopTold (F.answer function.now) rules.now first items.now row.now (option_map fault_in stop)) }
+        → IfOk result (λ stop. IsStopOfPartition (F.answer function.now) rules.now first items.now row.now (option_map fault_in stop)) }
 {
     if !row.state.is_failed() {
         return Ok(None);
@@ -155,9 +155,9 @@ fn stop_in<F: RowFunction>(
     Ok(fault_of(note, first, items.len()))
 }
 
-/// What is new of a partition, which stood at `before`, or hadn't begun: these results, the faults that it skipped since then, and the one
-/// by which it failed.
-pub(crate) fn news_of<F: RowFunction>(
+/// What is new of a partition since `before`, or since its start if there is no `before`. It is these results, the faults that it skipped since
+/// then, and the fault by which it failed.
+pub(crate) fn new_output_of<F: RowFunction>(
     alloc: Global,
     function: &F,
     rules: &Rules,
@@ -166,29 +166,29 @@ pub(crate) fn news_of<F: RowFunction>(
     before: Option<&Row>,
     row: &Row,
     results: PackedList,
-) -> Result<PartitionNews, AllocError>
+) -> Result<PartitionOutput, AllocError>
     requires numbers { first + length items.now < 2 ^ 64 }
     ensures { CanGrow (F.answer function.now) rules.now items.now (option_map (λ r. r.now) before.entry) row.now
-        → IfOk result (λ news. IsNewsOf (F.answer function.now) rules.now first items.now (option_map (λ r. r.now) before.entry) row.now results (news_in news)) }
+        → IfOk result (λ new_output. IsNewOutputOf (F.answer function.now) rules.now first items.now (option_map (λ r. r.now) before.entry) row.now results (new_output_in new_output)) }
 {
     let skips = new_skips(alloc, function, items, first, before, row)?;
     let stop = stop_in(alloc, function, rules, items, first, row)?;
-    Ok(PartitionNews {
+    Ok(PartitionOutput {
         results,
         skips,
         stop,
     })
 }
 
-/// The row of this index, the first being 0, if there is one.
+/// The row with this index, if it exists. The first index is 0.
 fn row_at(rows: &[Row], index: usize) -> Option<&Row>
     ensures { option_copied result ≡ slice_get rows.now index }
 {
     rows.get(index)
 }
 
-/// What is new of each partition, which stood at these rows before, or hadn't begun if there are none.
-pub(crate) fn all_news<F: RowFunction>(
+/// What is new of each partition since the rows `before`, or since its start if these are empty.
+pub(crate) fn all_new_output<F: RowFunction>(
     alloc: Global,
     function: &F,
     rules: &Rules,
@@ -197,10 +197,10 @@ pub(crate) fn all_news<F: RowFunction>(
     before: &[Row],
     rows: &[Row],
     results: Vec<PackedList>,
-) -> Result<Vec<PartitionNews>, AllocError>
+) -> Result<Vec<PartitionOutput>, AllocError>
     requires numbers { first + length items.now < 2 ^ 64 }
     ensures { length results.items ≡ length rows.now → CanAllGrow (F.answer function.now) rules.now items.now before.now rows.now
-        → IfOk result (λ news. AreNewsOf (F.answer function.now) rules.now first items.now before.now rows.now results.items (map news_in news.items)) }
+        → IfOk result (λ new_output. AreNewOutputsOf (F.answer function.now) rules.now first items.now before.now rows.now results.items (map new_output_in new_output.items)) }
 {
     let mut all = Vec::new(alloc);
     let mut index = 0;
@@ -209,7 +209,7 @@ pub(crate) fn all_news<F: RowFunction>(
         let Some(row) = row_at(rows, index) else {
             return Ok(all);
         };
-        all.push(news_of(alloc, function, rules, items, first, earlier, row, one)?)?;
+        all.push(new_output_of(alloc, function, rules, items, first, earlier, row, one)?)?;
         index += 1;
     }
     Ok(all)

@@ -3,11 +3,11 @@
 /// A job's limits.
 #[derive(Clone, Copy, Debug)]
 pub struct SliceLimits {
-    /// How many faults a partition of a slice skips. With none there is no limit.
+    /// How many faults a partition of a slice may skip. `None` is no limit.
     pub skips: Option<u64>,
-    /// How many the job skips. With none there is no limit.
+    /// How many faults the job may skip. `None` is no limit.
     pub job_skips: Option<u64>,
-    /// How many retries a partition of a slice makes.
+    /// How many retries a partition of a slice may make.
     pub retries: u64,
 }
 
@@ -16,7 +16,7 @@ pub struct SliceLimits {
 pub struct SliceHeader<'a> {
     /// The job's name.
     pub name: &'a str,
-    /// How many items a slice has, but for the last one.
+    /// How many items each slice but the last one has.
     pub slice_length: u64,
     /// How many partitions a slice has.
     pub partitions: u32,
@@ -37,6 +37,6 @@ pub struct SliceHeader<'a> {
     pub number: u64,
     /// How many items it has.
     pub items: u64,
-    /// The digest of these.
+    /// The digest of these items.
     pub digest: [u8; 32],
 }

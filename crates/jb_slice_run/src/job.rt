@@ -1,4 +1,4 @@
-//! What a run of a slice goes by.
+//! What a run of a slice needs of its job.
 
 ghost use Rattle.std.specs.Prelude.{◌≤◌};
 ghost use Rattle.std.specs.Option.{ForSome};
@@ -7,14 +7,14 @@ ghost use Rattle.jb_base.specs.Limits.{max_item_count, max_partitions_asked, max
 use crate::header::SliceLimits;
 use jb_base::Name;
 
-/// What a run of a slice goes by: the job's identity and its limits, the stamp of its function, the stamps that it keeps, and its threads.
+/// What a run of a slice needs of its job: its identity and limits, the stamp of its function, the other stamps that it accepts, and its threads.
 #[derive(Clone, Copy)]
 pub struct SliceJob<'a> {
     /// The job's name.
     pub name: &'a Name,
-    /// How many items a slice has, but for the last one.
+    /// How many items each slice but the last one has.
     pub slice_length: u64,
-    /// How many partitions a slice has: 1 to 4,096, of which a step takes 1,024 at most.
+    /// How many partitions a slice has: 1 to 4,096. A step takes 1,024 at most.
     pub partitions: u32,
     /// How many items a chunk has: 1 to 1,000,000.
     pub item_count: u64,
@@ -32,7 +32,7 @@ pub struct SliceJob<'a> {
     pub stamp: &'a str,
     /// The stamps of functions that do the same. A slice with one of them is resumed.
     pub stamps: &'a [&'a str],
-    /// At most 4,096, of which a step uses 64. At 0 it is the number of partitions.
+    /// At most 4,096, of which a step uses 64. 0 means one for each partition.
     pub threads: u32,
     pub ghost some: { 1 ≤ partitions },
     pub ghost few: { partitions ≤ max_partitions_asked },

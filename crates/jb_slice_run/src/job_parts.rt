@@ -40,7 +40,7 @@ impl<'a> SliceJob<'a> {
         })
     }
 
-    /// The header of the slice of this number, with so many items, of which this is the digest.
+    /// The header of the slice with this number, this many items and this digest of them.
     pub(crate) fn header(&self, number: u64, items: u64, digest: [u8; 32]) -> SliceHeader<'a>
         ensures { header_in result ≡ header_with self.now number items digest }
     {
@@ -61,7 +61,7 @@ impl<'a> SliceJob<'a> {
         }
     }
 
-    /// The number in the job of the first item of this slice, which has so many. None if its items have no numbers below 2^64.
+    /// The number in the job of this slice's first item, if the slice has this many items. `None` if the number after its last item isn't below 2^64.
     pub(crate) fn first_item(&self, number: u64, items: usize) -> Option<u64>
         ensures { MatchOption result (2 ^ 64 ≤ first_of (job_in self.now) number + items) (λ first. (first ≡ first_of (job_in self.now) number) × (first + items < 2 ^ 64)) }
     {

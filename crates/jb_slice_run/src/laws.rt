@@ -1,24 +1,24 @@
 //! What comes of the form. Nothing is done here: the clauses are the laws.
 
 ghost use Rattle.jb_slice_run.specs.Held.{PlacesAreRead};
-ghost use Rattle.jb_slice_run.specs.Laws.{EachIsKeptAsOne, FrontsAreKept, KeptAsOne, OneMoreIsKept, OwnSlicesAreTakenUp, SlicesBeginWithHeaders};
-ghost use Rattle.jb_slice_run.specs.Example.{SomeAreKept};
+ghost use Rattle.jb_slice_run.specs.Laws.{EachIsStoredAsOne, FrontsAreStored, StoredAsOne, OneMoreIsStored, OwnSlicesResume, SlicesBeginWithHeaders};
+ghost use Rattle.jb_slice_run.specs.Example.{SomeAreStored};
 
 use jb_saved::answers_are_computed;
 use jb_slices::slices_follow;
 
-/// Bytes keep one list of checkpoints at most. A front of those that keep a slice keeps it too, and so does one checkpoint more that may follow. The first one is a
-/// header, and the later ones are intervals; what is read of these is what the slice's place has. A slice of our own is refused for its stamp alone. And some bytes keep
-/// a slice.
-pub fn checkpoints_are_told()
-    ensures each { EachIsKeptAsOne }
-    ensures one { KeptAsOne }
-    ensures front { FrontsAreKept }
-    ensures more { OneMoreIsKept }
+/// Bytes store one list of checkpoints at most. If bytes store a slice, a front of them does too, and so do they with one more checkpoint that may
+/// follow. The first checkpoint is a header, and the later ones are intervals. What is read from these is what the slice's state has. A slice of
+/// our own can be refused only for its stamp. And some bytes store a slice.
+pub fn bytes_identify_checkpoints()
+    ensures each { EachIsStoredAsOne }
+    ensures one { StoredAsOne }
+    ensures front { FrontsAreStored }
+    ensures more { OneMoreIsStored }
     ensures header { SlicesBeginWithHeaders }
-    ensures own { OwnSlicesAreTakenUp }
+    ensures own { OwnSlicesResume }
     ensures place { PlacesAreRead }
-    ensures some { SomeAreKept }
+    ensures some { SomeAreStored }
 {
     slices_follow();
     answers_are_computed();

@@ -2,12 +2,12 @@
 
 ghost use Rattle.std.specs.Prelude.{ℕ, List, ◌≡◌, ◌≢◌, ◌⊎◌, ◌∷◌, [], length, map, IfErr, IfOk, MatchOption, MatchResult, OnOk, Contains};
 ghost use Rattle.std.specs.Bool.{MatchBool};
-ghost use Rattle.jb_slice_file.specs.Kept.{kept};
+ghost use Rattle.jb_slice_file.specs.CheckpointBytes.{checkpoint_bytes};
 ghost use Rattle.jb_slices.specs.Checkpoint.{Begins, Header};
 ghost use Rattle.jb_slices.specs.Job.{AreRaised, HaveInCommon, IsRaised};
 ghost use Rattle.jb_slice_run.specs.Held.{header_in, limits_in};
-ghost use Rattle.jb_slice_run.specs.Kept.{IsKeptAs};
-ghost use Rattle.jb_slice_run.specs.Refusals.{HaveThoseBefore, IsHeaderCause, IsOfHeader, IsOwn, part_of};
+ghost use Rattle.jb_slice_run.specs.SliceBytes.{IsStoredAs};
+ghost use Rattle.jb_slice_run.specs.Refusals.{HaveThoseBefore, IsHeaderCause, IsHeaderRefusal, IsOwn, part_of};
 ghost use Rattle.jb_slice_run.specs.Strings.{AreLimitsSmall, IsHeaderSmall, header_lists, limits_list};
 ghost use Rattle.jb_slice_run.specs.declared.error.SliceError.TheVariants.{Damaged, LoweredLimit, Memory};
 
@@ -101,7 +101,7 @@ fn other_part(own: &[PackedList], held: &[PackedList]) -> Option<IdentityPart>
 }
 
 impl HeaderLists {
-    /// Those of this header.
+    /// The lists of this header.
     pub fn of(alloc: Global, header: &SliceHeader) -> Result<HeaderLists, AllocError>
         ensures lists { IfOk result (λ lists. lists ≡ header_lists (header_in header.now)) }
         ensures small { OnOk result (IsHeaderSmall (header_in header.now)) }
@@ -110,19 +110,19 @@ impl HeaderLists {
         Ok(HeaderLists { lists })
     }
 
-    /// Those of a slice's first checkpoint.
+    /// The lists of a slice's first checkpoint.
     ///
     /// # Errors
     /// `Damaged` if its bytes aren't the coding of ten lists, and `Memory`.
     pub fn read(alloc: Global, first: &Checkpoint) -> Result<HeaderLists, SliceError>
-        ensures read { (h : Header) → IsKeptAs (Begins h) (kept first.now) → IfOk result (λ lists. lists ≡ header_lists h) }
-        ensures why { IfErr result (λ e. (e ≡ Memory) ⊎ (e ≡ Damaged) × ((h : Header) → IsKeptAs (Begins h) (kept first.now) → ⊥)) }
+        ensures read { (h : Header) → IsStoredAs (Begins h) (checkpoint_bytes first.now) → IfOk result (λ lists. lists ≡ header_lists h) }
+        ensures why { IfErr result (λ e. (e ≡ Memory) ⊎ (e ≡ Damaged) × ((h : Header) → IsStoredAs (Begins h) (checkpoint_bytes first.now) → ⊥)) }
     {
         let lists = read_lists(alloc, &first.results, 10)?;
         Ok(HeaderLists { lists })
     }
 
-    /// The limits by which the slice began.
+    /// The limits with which the slice began.
     ///
     /// # Errors
     /// `Damaged` if these aren't limits.
@@ -133,14 +133,14 @@ impl HeaderLists {
         read_limits(&self.lists[7])
     }
 
-    /// Refuses a header that isn't our own, but for its limits, with this stamp or one of those that are kept.
+    /// Refuses a header that isn't our own. Its limits may differ. Its stamp must be ours or one of `stamps`.
     ///
     /// # Errors
     /// In this order: `OtherJob` with the first part of the identity that differs, `OtherSlice`, `OtherItems`, `OtherStamp`.
     pub fn refuse_others(&self, own: &HeaderLists, stamps: &[&str]) -> Result<(), SliceError>
         ensures own { (h o : Header) → self.now ≡ header_lists h → own.now ≡ header_lists o → IsHeaderSmall h → IsHeaderSmall o → OnOk result (IsOwn o (map (λ stamp. stamp.now) stamps.now) h) }
         ensures why { (h o : Header) → self.now ≡ header_lists h → own.now ≡ header_lists o → IsHeaderSmall h → IsHeaderSmall o → IfErr result (IsHeaderCause o (map (λ stamp. stamp.now) stamps.now) h) }
-        ensures kind { IfErr result IsOfHeader }
+        ensures kind { IfErr result IsHeaderRefusal }
     {
         let own = own.lists.as_slice();
         let held = self.lists.as_slice();
@@ -176,7 +176,7 @@ fn is_lowered(before: Option<u64>, after: Option<u64>) -> bool
     }
 }
 
-/// Refuses limits of which one is lower than the slice's.
+/// Refuses limits if one of them is lower than the slice's.
 ///
 /// # Errors
 /// `LoweredLimit`.

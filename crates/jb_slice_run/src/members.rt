@@ -32,7 +32,7 @@ fn write_classes(out: &mut Writer, set: u64) -> Result<(), AllocError>
     out.end_array()
 }
 
-/// Writes a limit, or null if there is none.
+/// Writes a limit, or null for no limit.
 pub(crate) fn write_limit(out: &mut Writer, limit: Option<u64>) -> Result<(), AllocError>
     ensures limit { OnOk result (out.new.tokens ≡ out.old.tokens ++ tokens_of (limit_tree limit)) }
     ensures before { out.new.before ≡ out.old.before }

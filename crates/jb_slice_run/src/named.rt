@@ -1,27 +1,27 @@
 //! The faults that a slice's checkpoints name.
 
 ghost use Rattle.std.specs.Prelude.{ℕ, List, ◌≡◌, ◌<◌, ◌^◌, ◌++◌, [], length, map, option_copied, option_map, slice_get, IfOk, OnOk};
-ghost use Rattle.jb_records.specs.Stretches.{RunState};
+ghost use Rattle.jb_records.specs.Intervals.{RunState};
 ghost use Rattle.jb_rules.specs.States.{is_failed};
-ghost use Rattle.jb_slice_file.specs.Kept.{Kept};
+ghost use Rattle.jb_slice_file.specs.CheckpointBytes.{CheckpointBytes};
 ghost use Rattle.jb_slices.specs.Failures.{failure_and};
 ghost use Rattle.jb_slices.specs.Function.{Function};
 ghost use Rattle.jb_slices.specs.Job.{Limits};
 ghost use Rattle.jb_slices.specs.Slice.{Functions};
-ghost use Rattle.jb_slice_run.specs.Held.{faults_in, news_in};
+ghost use Rattle.jb_slice_run.specs.Held.{faults_in, new_output_in};
 ghost use Rattle.jb_slice_run.specs.Jobs.{job_in};
 ghost use Rattle.jb_slice_run.specs.Named.{AreNamed, HoldsFaults, failure_in, failures_by, faults_grown, faults_held, one_after, skips_by};
-ghost use Rattle.jb_slice_run.specs.Work.{IsUnderway};
+ghost use Rattle.jb_slice_run.specs.Work.{HasIntervals};
 
 use crate::fault::{Fault, PartitionFaults};
 use crate::job::SliceJob;
-use crate::news::PartitionNews;
+use crate::partition_output::PartitionOutput;
 use jb_rules::Row;
 use std::alloc::{AllocError, Global};
 
 /// A partition that failed.
 #[derive(Clone, Copy, Debug)]
-pub struct Failure {
+pub struct PartitionFailure {
     /// Its number, the first being 0.
     pub partition: u32,
     /// The place in the slice of its first item, the first being 0.
@@ -38,16 +38,16 @@ pub struct SliceFaults {
     /// Those that were skipped, in the order of their items.
     pub skips: Vec<Fault>,
     /// The partitions that failed in the last interval, in order.
-    pub failures: Vec<Failure>,
+    pub failures: Vec<PartitionFailure>,
 }
 
-/// What a partition has after this is new of it: it had the faults before, or hadn't begun.
+/// The faults of a partition after this new output. `before` has its faults until then, if it has started.
 fn one_after(
     alloc: Global,
     before: Option<&PartitionFaults>,
-    new: &PartitionNews,
+    new: &PartitionOutput,
 ) -> Result<PartitionFaults, AllocError>
-    ensures { IfOk result (λ faults. faults_held faults ≡ one_after (option_map (λ f. faults_held f.now) before.entry) (news_in new.now)) }
+    ensures { IfOk result (λ faults. faults_held faults ≡ one_after (option_map (λ f. faults_held f.now) before.entry) (new_output_in new.now)) }
 {
     let mut skips = match before {
         Some(before) => Vec::from_slice(alloc, &before.skips)?,
@@ -60,23 +60,23 @@ fn one_after(
     })
 }
 
-/// The faults of the partition with this number, if it has begun.
+/// The faults of the partition with this number, if it has started.
 fn faults_at(all: &[PartitionFaults], index: usize) -> Option<&PartitionFaults>
     ensures { option_copied result ≡ slice_get all.now index }
 {
     all.get(index)
 }
 
-/// What the partitions have after this is new of them.
+/// The faults of the partitions after this new output.
 pub(crate) fn faults_after(
     alloc: Global,
     before: &[PartitionFaults],
-    news: &[PartitionNews],
+    new_output: &[PartitionOutput],
 ) -> Result<Vec<PartitionFaults>, AllocError>
-    ensures { IfOk result (λ faults. map faults_held faults.items ≡ faults_grown (map faults_held before.now) (map news_in news.now)) }
+    ensures { IfOk result (λ faults. map faults_held faults.items ≡ faults_grown (map faults_held before.now) (map new_output_in new_output.now)) }
 {
     let mut all = Vec::new(alloc);
-    for new in news {
+    for new in new_output {
         let earlier = faults_at(before, all.len());
         all.push(one_after(alloc, earlier, new)?)?;
     }
@@ -94,9 +94,9 @@ fn skips_of(alloc: Global, partitions: &[PartitionFaults]) -> Result<Vec<Fault>,
     Ok(all)
 }
 
-/// Puts a partition after those that failed, if it failed.
+/// Adds a partition to those that failed, if it failed.
 fn add_failure(
-    all: &mut Vec<Failure>,
+    all: &mut Vec<PartitionFailure>,
     partition: u32,
     row: &Row,
     faults: &PartitionFaults,
@@ -106,7 +106,7 @@ fn add_failure(
     if let Some(fault) = faults.stop
         && row.state.is_failed()
     {
-        all.push(Failure {
+        all.push(PartitionFailure {
             partition,
             lo: row.lo,
             hi: row.hi,
@@ -116,12 +116,12 @@ fn add_failure(
     Ok(())
 }
 
-/// Those of these partitions that failed.
+/// The failed ones of these partitions.
 fn failures_of(
     alloc: Global,
     rows: &[Row],
     partitions: &[PartitionFaults],
-) -> Result<Vec<Failure>, AllocError>
+) -> Result<Vec<PartitionFailure>, AllocError>
     requires { length partitions.now < 2 ^ 32 }
     ensures { IfOk result (λ failures. map failure_in failures.items ≡ failures_by 0 rows.now (map faults_held partitions.now)) }
 {
@@ -133,18 +133,18 @@ fn failures_of(
 }
 
 /// The faults that a slice's checkpoints name: those that its partitions skipped, and those by which they failed. The rows are those of the last
-/// interval, and the faults those that its place holds.
+/// interval. The faults are those that its run holds.
 pub fn faults_of_slice(
     alloc: Global,
     job: &SliceJob,
     rows: &[Row],
     faults: &[PartitionFaults],
 ) -> Result<SliceFaults, AllocError>
-    ensures { (functions : Functions) (f : Function) (limits : Limits) (number : ℕ) (items : List (List ℕ)) (s : RunState) (all : List Kept)
-        → (at : IsUnderway (job_in job.now) functions f limits number items s rows.now all) → HoldsFaults (map faults_held faults.now) all → IfOk result (AreNamed at.checkpoints) }
+    ensures { (functions : Functions) (f : Function) (limits : Limits) (number : ℕ) (items : List (List ℕ)) (s : RunState) (all : List CheckpointBytes)
+        → (at : HasIntervals (job_in job.now) functions f limits number items s rows.now all) → HoldsFaults (map faults_held faults.now) all → IfOk result (AreNamed at.checkpoints) }
 {
     let skips = skips_of(alloc, faults)?;
-    // There are never more of them than partitions.
+    // There are never more entries than partitions.
     if faults.len() > job.partitions as usize {
         return Ok(SliceFaults {
             skips,

@@ -10,11 +10,11 @@ pub trait Pace {
     fn begin(&mut self) -> u64
         ensures { 1 ≤ result };
 
-    /// It is over.
+    /// The interval is over.
     fn end(&mut self);
 }
 
-/// So many rounds each; 0 is taken as 1.
+/// This many rounds for each interval; 0 counts as 1.
 #[derive(Clone, Copy, Debug, PartialEq, Eq)]
 pub struct Rounds(pub u64);
 
@@ -29,8 +29,8 @@ impl Pace for Rounds {
     fn end(&mut self) {}
 }
 
-/// About a second's work each by a clock. The first interval takes one round. An interval that took less than half a second is followed by one
-/// of twice as many rounds, and one that took more than two seconds by one of half as many. If the clock can't be read, the number stays.
+/// About a second's work for each interval, by a clock. The first interval takes one round. After an interval of less than half a second the
+/// number of rounds doubles. After one of more than two seconds it is halved. If the clock can't be read, it stays.
 #[derive(Drop)]
 pub struct ASecond<C> {
     clock: C,
@@ -39,7 +39,7 @@ pub struct ASecond<C> {
     ghost some: { 1 ≤ rounds },
 }
 
-/// The number of rounds after an interval of so many that took so long.
+/// The number of rounds after an interval that had this many and took this long.
 fn next_rounds(rounds: u64, took: Duration) -> u64
     requires { 1 ≤ rounds }
     ensures { 1 ≤ result }

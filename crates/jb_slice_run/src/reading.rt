@@ -3,15 +3,15 @@
 ghost use Rattle.std.specs.Prelude.{ℕ, List, ◌≡◌, ◌++◌, ◌⊎◌, [], map, option_map, MatchOption, IfErr, OnOk, MatchResult, None, Option};
 ghost use Rattle.jb_slices.specs.Function.{Fault as SliceFault};
 ghost use Rattle.jb_slices.specs.Job.{Limits};
-ghost use Rattle.jb_slice_run.specs.Held.{fault_in, faults_in, limits_in, news_in, one_grown};
-ghost use Rattle.jb_slice_run.specs.Strings.{AreFaultsSmall, AreLimitsSmall, IsNewsSmall, IsSmall, News, fault_string, limit_string, limits_list, number_string, stop_list};
+ghost use Rattle.jb_slice_run.specs.Held.{fault_in, faults_in, limits_in, new_output_in, one_grown};
+ghost use Rattle.jb_slice_run.specs.Strings.{AreFaultsSmall, AreLimitsSmall, IsOutputSmall, IsSmall, NewOutput, fault_string, limit_string, limits_list, number_string, stop_list};
 ghost use Rattle.std.specs.Option.{ForSome};
 ghost use Rattle.jb_slice_run.specs.declared.error.SliceError.TheVariants.{Damaged, Memory};
 
 use crate::error::SliceError;
 use crate::fault::Fault;
 use crate::header::SliceLimits;
-use crate::news::PartitionNews;
+use crate::partition_output::PartitionOutput;
 use jb_base::{ClassId, PackedList};
 
 /// The number that these bytes are.
@@ -78,7 +78,7 @@ fn read_fault(bytes: &[u8]) -> Option<Fault>
     })
 }
 
-/// Puts the faults that this list has after the others.
+/// Adds the faults that this list has.
 fn read_faults(list: &PackedList, faults: &mut Vec<Fault>) -> Result<(), SliceError>
     ensures read { (new : List SliceFault) → AreFaultsSmall new → list.now ≡ map fault_string new → OnOk result (faults_in faults.new.items ≡ faults_in faults.old.items ++ new) }
     ensures why { IfErr result (λ e. (e ≡ Memory) ⊎ (e ≡ Damaged) × ((new : List SliceFault) → list.now ≡ map fault_string new → ⊥)) }
@@ -92,7 +92,7 @@ fn read_faults(list: &PackedList, faults: &mut Vec<Fault>) -> Result<(), SliceEr
     Ok(())
 }
 
-/// The stop that this list has, or none.
+/// The stop that this list has, or `None`.
 fn read_stop(list: &PackedList) -> Result<Option<Fault>, SliceError>
     ensures { MatchResult result (λ stop. (list.now ≡ stop_list (option_map fault_in stop)) × ForSome stop (λ fault. IsSmall fault.number)) (λ e. (e ≡ Damaged) × ((stop : Option SliceFault) → list.now ≡ stop_list stop → ⊥)) }
 {
@@ -106,19 +106,19 @@ fn read_stop(list: &PackedList) -> Result<Option<Fault>, SliceError>
     }
 }
 
-/// Puts what these three lists have after what a partition has.
+/// Adds what these three lists have to what a partition has.
 pub(crate) fn grow(
-    news: &mut PartitionNews,
+    new_output: &mut PartitionOutput,
     results: &PackedList,
     skips: &PackedList,
     stop: &PackedList,
 ) -> Result<(), SliceError>
-    ensures read { (new : News) → IsNewsSmall new → results.now ≡ new.results → skips.now ≡ map fault_string new.skips → stop.now ≡ stop_list new.stop
-        → OnOk result (news_in news.new ≡ one_grown (news_in news.old) new) }
-    ensures why { IfErr result (λ e. (e ≡ Memory) ⊎ (e ≡ Damaged) × ((new : News) → skips.now ≡ map fault_string new.skips → stop.now ≡ stop_list new.stop → ⊥)) }
+    ensures read { (new : NewOutput) → IsOutputSmall new → results.now ≡ new.results → skips.now ≡ map fault_string new.skips → stop.now ≡ stop_list new.stop
+        → OnOk result (new_output_in new_output.new ≡ one_grown (new_output_in new_output.old) new) }
+    ensures why { IfErr result (λ e. (e ≡ Memory) ⊎ (e ≡ Damaged) × ((new : NewOutput) → skips.now ≡ map fault_string new.skips → stop.now ≡ stop_list new.stop → ⊥)) }
 {
-    news.results.append(results)?;
-    read_faults(skips, &mut news.skips)?;
-    news.stop = read_stop(stop)?;
+    new_output.results.append(results)?;
+    read_faults(skips, &mut new_output.skips)?;
+    new_output.stop = read_stop(stop)?;
     Ok(())
 }

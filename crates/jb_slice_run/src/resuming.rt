@@ -5,21 +5,21 @@ ghost use Rattle.std.specs.Arc.{arc_value};
 ghost use Rattle.jb_records.specs.declared.error.RecordsStepError.{RecordsStepError as RecordsStepFault};
 ghost use Rattle.jb_records.specs.Causes.{IsCauseOf};
 ghost use Rattle.jb_records.specs.Function.{steady};
-ghost use Rattle.jb_slice_file.specs.Kept.{Kept, kept};
+ghost use Rattle.jb_slice_file.specs.CheckpointBytes.{CheckpointBytes, checkpoint_bytes};
 ghost use Rattle.jb_slices.specs.Checkpoint.{Begins, Header};
 ghost use Rattle.jb_slices.specs.Slice.{Functions};
 ghost use Rattle.jb_slice_run.specs.Causes.{IsFirstOwn, IsHeaderLong, IsResumeCause};
-ghost use Rattle.jb_slice_run.specs.Held.{header_in, limits_in, news_in};
+ghost use Rattle.jb_slice_run.specs.Held.{header_in, limits_in, new_output_in};
 ghost use Rattle.jb_slice_run.specs.Jobs.{job_in, kept_stamps, own_header, stamps_in};
-ghost use Rattle.jb_slice_run.specs.Kept.{IsKeptAs, KeepsSlice};
+ghost use Rattle.jb_slice_run.specs.SliceBytes.{IsStoredAs, KeepsSlice};
 ghost use Rattle.jb_slice_run.specs.Named.{HoldsFaults, faults_by, faults_held};
-ghost use Rattle.jb_slice_run.specs.Refusals.{IsHeaderCause, IsOfHeader, IsOwn};
-ghost use Rattle.jb_slice_run.specs.Step.{AreOf, IsStepOfSlice};
+ghost use Rattle.jb_slice_run.specs.Refusals.{IsHeaderCause, IsHeaderRefusal, IsOwn};
+ghost use Rattle.jb_slice_run.specs.Step.{AreStampsOf, IsStepOfSlice};
 ghost use Rattle.jb_slice_run.specs.Whole.{KeepsWhole};
-ghost use Rattle.jb_slice_run.specs.Work.{HasNoResults, IsRunDone, IsTold, IsUnderway, RunsSlice, SliceStandsAt};
+ghost use Rattle.jb_slice_run.specs.Work.{HasNoResults, IsRunDone, StatusMatchesRows, HasIntervals, RunsSlice, SliceStandsAt};
 ghost use Rattle.jb_slice_run.specs.declared.error.SliceError.TheVariants.{Damaged, Memory, TooLong};
 ghost use Rattle.jb_slice_run.specs.declared.run_error.SliceRunError.TheVariants.{Step};
-ghost use Rattle.jb_slice_run.specs.declared.place.Stage.TheVariants.{Begun, Underway};
+ghost use Rattle.jb_slice_run.specs.declared.resumable_run.Stage.TheVariants.{HeaderOnly, SomeIntervals};
 
 use crate::digest::digest_of;
 use crate::error::SliceError;
@@ -27,22 +27,22 @@ use crate::fault::PartitionFaults;
 use crate::header::{SliceHeader, SliceLimits};
 use crate::intervals::read_slice;
 use crate::job::SliceJob;
-use crate::laws::checkpoints_are_told;
+use crate::laws::bytes_identify_checkpoints;
 use crate::lists::{HeaderLists, refuse_lowered};
-use crate::news::PartitionNews;
-use crate::place::{SlicePlace, Stage};
+use crate::partition_output::PartitionOutput;
+use crate::resumable_run::{ResumableRun, Stage};
 use crate::row_laws::rows_are_progress;
 use crate::run_error::SliceRunError;
 use crate::writing::header_checkpoint;
 use jb_base::PackedList;
-use jb_records::{RecordsRun, RecordsStep, Standing, rules_are_kept};
+use jb_records::{HasRunState, RecordsRun, RecordsStep, rules_are_kept};
 use jb_rows::RowFunction;
 use jb_slice_file::Checkpoint;
 use jb_step::read_saved;
 use std::alloc::{AllocError, Global};
 use std::sync::Arc;
 
-/// The header with which the slice of this number, with these items, begins.
+/// The header with which the slice with this number and these items begins.
 fn header_of<'a>(
     alloc: Global,
     job: &SliceJob<'a>,
@@ -56,17 +56,17 @@ fn header_of<'a>(
     Ok(job.header(number, items.len() as u64, digest))
 }
 
-/// The limits by which a slice with this first checkpoint began, if that is our own.
+/// The limits with which a slice with this first checkpoint began. The checkpoint must be our own.
 fn own_limits(
     alloc: Global,
     own: &SliceHeader,
     stamps: &[&str],
     first: &Checkpoint,
 ) -> Result<SliceLimits, SliceError>
-    ensures own { OnOk result ((h : Header) → IsKeptAs (Begins h) (kept first.now) → IsOwn (header_in own.now) (map (λ stamp. stamp.now) stamps.now) h) }
-    ensures limits { (h : Header) → IsKeptAs (Begins h) (kept first.now) → IfOk result (λ limits. limits_in limits ≡ h.limits) }
-    ensures why { IfErr result (λ e. (e ≡ Memory) ⊎ (e ≡ Damaged) × ((h : Header) → IsKeptAs (Begins h) (kept first.now) → ⊥)
-        ⊎ IsOfHeader e × ((h : Header) → IsKeptAs (Begins h) (kept first.now) → IsHeaderCause (header_in own.now) (map (λ stamp. stamp.now) stamps.now) h e)) }
+    ensures own { OnOk result ((h : Header) → IsStoredAs (Begins h) (checkpoint_bytes first.now) → IsOwn (header_in own.now) (map (λ stamp. stamp.now) stamps.now) h) }
+    ensures limits { (h : Header) → IsStoredAs (Begins h) (checkpoint_bytes first.now) → IfOk result (λ limits. limits_in limits ≡ h.limits) }
+    ensures why { IfErr result (λ e. (e ≡ Memory) ⊎ (e ≡ Damaged) × ((h : Header) → IsStoredAs (Begins h) (checkpoint_bytes first.now) → ⊥)
+        ⊎ IsHeaderRefusal e × ((h : Header) → IsStoredAs (Begins h) (checkpoint_bytes first.now) → IsHeaderCause (header_in own.now) (map (λ stamp. stamp.now) stamps.now) h e)) }
 {
     let held = HeaderLists::read(alloc, first)?;
     let own = HeaderLists::of(alloc, own)?;
@@ -78,19 +78,19 @@ fn own_limits(
 /// The results of the partitions, and their faults.
 fn parts_of(
     alloc: Global,
-    partitions: Vec<PartitionNews>,
+    partitions: Vec<PartitionOutput>,
 ) -> Result<(Vec<PackedList>, Vec<PartitionFaults>), AllocError>
-    ensures results { IfOk result (λ r. r.0.items ≡ map (λ (news : PartitionNews). news.results) partitions.items) }
-    ensures faults { IfOk result (λ r. map faults_held r.1.items ≡ map faults_by (map news_in partitions.items)) }
+    ensures results { IfOk result (λ r. r.0.items ≡ map (λ (new_output : PartitionOutput). new_output.results) partitions.items) }
+    ensures faults { IfOk result (λ r. map faults_held r.1.items ≡ map faults_by (map new_output_in partitions.items)) }
 {
     let mut results = Vec::new(alloc);
     let mut faults = Vec::new(alloc);
-    'partitions: for news in partitions {
-        let PartitionNews {
+    'partitions: for new_output in partitions {
+        let PartitionOutput {
             results: own,
             skips,
             stop,
-        } = news;
+        } = new_output;
         results.push(own)?;
         faults.push(PartitionFaults { skips, stop })?;
     }
@@ -105,20 +105,20 @@ fn begun<F: RowFunction + Drop>(
     function: &Arc<F, Global>,
     items: &PackedList,
     stage: Stage,
-) -> Result<SlicePlace<F>, SliceRunError>
+) -> Result<ResumableRun<F>, SliceRunError>
     requires step { IsStepOfSlice (job_in job.now) (limits_in job.now.limits) job.now.threads step.now }
-    ensures runs { IfOk result (λ place. RunsSlice (job_in job.now) (F.answer (arc_value function.now)) (limits_in job.now.limits) items.now (⟦<RecordsRun<F> as Standing>⟧.standing place.run)) }
-    ensures empty { IfOk result (λ place. HasNoResults (⟦<RecordsRun<F> as Standing>⟧.standing place.run)) }
+    ensures runs { IfOk result (λ place. RunsSlice (job_in job.now) (F.answer (arc_value function.now)) (limits_in job.now.limits) items.now (⟦<RecordsRun<F> as HasRunState>⟧.run_state place.run)) }
+    ensures empty { IfOk result (λ place. HasNoResults (⟦<RecordsRun<F> as HasRunState>⟧.run_state place.run)) }
     ensures stage { IfOk result (λ place. place.stage ≡ stage) }
     ensures rows { IfOk result (λ place. place.rows.items ≡ []) }
     ensures faults { IfOk result (λ place. place.faults.items ≡ []) }
     ensures fresh { IfOk result (λ place. place.has_failed ≡ false) }
-    ensures told { IfOk result (λ place. IsTold place.has_failed place.stage (⟦<RecordsRun<F> as Standing>⟧.standing place.run) place.rows.items) }
+    ensures agrees { IfOk result (λ place. StatusMatchesRows place.has_failed place.stage (⟦<RecordsRun<F> as HasRunState>⟧.run_state place.run) place.rows.items) }
     ensures why { IfErr result (λ e. (why : RecordsStepFault) × (e ≡ Step why) × IsCauseOf (steady (F.answer (arc_value function.now))) step.now items.now None why) }
 {
     rows_are_progress();
     let run = RecordsRun::begin(alloc, step, function, items)?;
-    Ok(SlicePlace {
+    Ok(ResumableRun {
         run,
         rows: Vec::new(alloc),
         faults: Vec::new(alloc),
@@ -136,18 +136,25 @@ fn blank<F: RowFunction + Drop>(
     number: u64,
     items: &PackedList,
     own: &SliceHeader,
-) -> Result<SlicePlace<F>, SliceRunError>
+) -> Result<ResumableRun<F>, SliceRunError>
     requires step { IsStepOfSlice (job_in job.now) (limits_in job.now.limits) job.now.threads step.now }
     requires own { header_in own.now ≡ own_header job.now number items.now }
-    ensures stands { (functions : Functions) (all : List Kept) → all ≡ [] → functions job.now.stamp.now ≡ F.answer (arc_value function.now)
-        → IfOk result (λ place. SliceStandsAt (job_in job.now) functions (F.answer (arc_value function.now)) (limits_in job.now.limits) number items.now place.stage (⟦<RecordsRun<F> as Standing>⟧.standing place.run) place.rows.items all) }
+    ensures stands { (functions : Functions) (all : List CheckpointBytes) → all ≡ [] → functions job.now.stamp.now ≡ F.answer (arc_value function.now)
+        → IfOk result (λ place. SliceStandsAt (job_in job.now) functions (F.answer (arc_value function.now)) (limits_in job.now.limits) number items.now place.stage (⟦<RecordsRun<F> as HasRunState>⟧.run_state place.run) place.rows.items all) }
     ensures fresh { IfOk result (λ place. place.has_failed ≡ false) }
-    ensures told { IfOk result (λ place. IsTold place.has_failed place.stage (⟦<RecordsRun<F> as Standing>⟧.standing place.run) place.rows.items) }
+    ensures agrees { IfOk result (λ place. StatusMatchesRows place.has_failed place.stage (⟦<RecordsRun<F> as HasRunState>⟧.run_state place.run) place.rows.items) }
     ensures faults { IfOk result (λ place. place.faults.items ≡ []) }
-    ensures why { (all : List Kept) → IfErr result (IsResumeCause job.now (F.answer (arc_value function.now)) number items.now all) }
+    ensures why { (all : List CheckpointBytes) → IfErr result (IsResumeCause job.now (F.answer (arc_value function.now)) number items.now all) }
 {
     let first = header_checkpoint(alloc, own)?;
-    begun(alloc, job, step, function, items, Stage::Blank(first))
+    begun(
+        alloc,
+        job,
+        step,
+        function,
+        items,
+        Stage::NoCheckpoint(first),
+    )
 }
 
 /// Begins after the header, which has these limits.
@@ -158,24 +165,24 @@ fn after_header<F: RowFunction + Drop>(
     function: &Arc<F, Global>,
     items: &PackedList,
     limits: SliceLimits,
-) -> Result<SlicePlace<F>, SliceRunError>
+) -> Result<ResumableRun<F>, SliceRunError>
     requires step { IsStepOfSlice (job_in job.now) (limits_in job.now.limits) job.now.threads step.now }
-    ensures stands { (functions : Functions) (number : ℕ) (first : Kept) (h : Header) (all : List Kept) → all ≡ first ∷ [] → IsKeptAs (Begins h) first → h.limits ≡ limits_in limits → functions h.stamp ≡ F.answer (arc_value function.now)
+    ensures stands { (functions : Functions) (number : ℕ) (first : CheckpointBytes) (h : Header) (all : List CheckpointBytes) → all ≡ first ∷ [] → IsStoredAs (Begins h) first → h.limits ≡ limits_in limits → functions h.stamp ≡ F.answer (arc_value function.now)
         → KeepsSlice (job_in job.now) functions number items.now all
-        → IfOk result (λ place. SliceStandsAt (job_in job.now) functions (F.answer (arc_value function.now)) (limits_in job.now.limits) number items.now place.stage (⟦<RecordsRun<F> as Standing>⟧.standing place.run) place.rows.items all) }
-    ensures stage { IfOk result (λ place. place.stage ≡ Begun) }
+        → IfOk result (λ place. SliceStandsAt (job_in job.now) functions (F.answer (arc_value function.now)) (limits_in job.now.limits) number items.now place.stage (⟦<RecordsRun<F> as HasRunState>⟧.run_state place.run) place.rows.items all) }
+    ensures stage { IfOk result (λ place. place.stage ≡ HeaderOnly) }
     ensures faults { IfOk result (λ place. place.faults.items ≡ []) }
     ensures fresh { IfOk result (λ place. place.has_failed ≡ false) }
-    ensures told { IfOk result (λ place. IsTold place.has_failed place.stage (⟦<RecordsRun<F> as Standing>⟧.standing place.run) place.rows.items) }
-    ensures why { (number : ℕ) (first : Kept) → ((h : Header) → IsKeptAs (Begins h) first → h.limits ≡ limits_in limits)
+    ensures agrees { IfOk result (λ place. StatusMatchesRows place.has_failed place.stage (⟦<RecordsRun<F> as HasRunState>⟧.run_state place.run) place.rows.items) }
+    ensures why { (number : ℕ) (first : CheckpointBytes) → ((h : Header) → IsStoredAs (Begins h) first → h.limits ≡ limits_in limits)
         → IfErr result (IsResumeCause job.now (F.answer (arc_value function.now)) number items.now (first ∷ [])) }
 {
-    checkpoints_are_told();
+    bytes_identify_checkpoints();
     refuse_lowered(job.limits, limits)?;
-    begun(alloc, job, step, function, items, Stage::Begun)
+    begun(alloc, job, step, function, items, Stage::HeaderOnly)
 }
 
-/// Resumes after these intervals, the last of which is this one, and which go on by these limits.
+/// Resumes after these intervals, the last of which is `last`. The header before them has these limits.
 fn behind<F: RowFunction + Drop>(
     alloc: Global,
     job: &SliceJob,
@@ -185,26 +192,26 @@ fn behind<F: RowFunction + Drop>(
     limits: SliceLimits,
     later: &[Checkpoint],
     last: &Checkpoint,
-) -> Result<SlicePlace<F>, SliceRunError>
+) -> Result<ResumableRun<F>, SliceRunError>
     requires step { IsStepOfSlice (job_in job.now) (limits_in job.now.limits) job.now.threads step.now }
     requires last { slice_get later.now (length later.now - 1) ≡ Some last.now }
-    ensures underway { (functions : Functions) (number : ℕ) (first : Kept) (h : Header) → IsKeptAs (Begins h) first → h.limits ≡ limits_in limits → functions h.stamp ≡ F.answer (arc_value function.now)
-        → KeepsSlice (job_in job.now) functions number items.now (first ∷ map kept later.now)
-        → IfOk result (λ place. IsUnderway (job_in job.now) functions (F.answer (arc_value function.now)) (limits_in job.now.limits) number items.now (⟦<RecordsRun<F> as Standing>⟧.standing place.run) place.rows.items (first ∷ map kept later.now)) }
-    ensures stage { IfOk result (λ place. place.stage ≡ Underway) }
-    ensures faults { (functions : Functions) (number : ℕ) (first : Kept) → KeepsSlice (job_in job.now) functions number items.now (first ∷ map kept later.now)
-        → IfOk result (λ place. HoldsFaults (map faults_held place.faults.items) (first ∷ map kept later.now)) }
+    ensures underway { (functions : Functions) (number : ℕ) (first : CheckpointBytes) (h : Header) → IsStoredAs (Begins h) first → h.limits ≡ limits_in limits → functions h.stamp ≡ F.answer (arc_value function.now)
+        → KeepsSlice (job_in job.now) functions number items.now (first ∷ map checkpoint_bytes later.now)
+        → IfOk result (λ place. HasIntervals (job_in job.now) functions (F.answer (arc_value function.now)) (limits_in job.now.limits) number items.now (⟦<RecordsRun<F> as HasRunState>⟧.run_state place.run) place.rows.items (first ∷ map checkpoint_bytes later.now)) }
+    ensures stage { IfOk result (λ place. place.stage ≡ SomeIntervals) }
+    ensures faults { (functions : Functions) (number : ℕ) (first : CheckpointBytes) → KeepsSlice (job_in job.now) functions number items.now (first ∷ map checkpoint_bytes later.now)
+        → IfOk result (λ place. HoldsFaults (map faults_held place.faults.items) (first ∷ map checkpoint_bytes later.now)) }
     ensures fresh { IfOk result (λ place. place.has_failed ≡ false) }
-    ensures told { IfOk result (λ place. IsTold place.has_failed place.stage (⟦<RecordsRun<F> as Standing>⟧.standing place.run) place.rows.items) }
-    ensures done { (functions : Functions) (number : ℕ) (first : Kept) (h : Header) → IsKeptAs (Begins h) first → h.limits ≡ limits_in limits → functions h.stamp ≡ F.answer (arc_value function.now)
-        → KeepsWhole (job_in job.now) functions (limits_in job.now.limits) number items.now (first ∷ map kept later.now)
-        → IfOk result (λ place. IsRunDone place.has_failed place.stage (⟦<RecordsRun<F> as Standing>⟧.standing place.run)) }
-    ensures why { (number : ℕ) (first : Kept) → ((h : Header) → IsKeptAs (Begins h) first → h.limits ≡ limits_in limits)
-        → IfErr result (IsResumeCause job.now (F.answer (arc_value function.now)) number items.now (first ∷ map kept later.now)) }
+    ensures agrees { IfOk result (λ place. StatusMatchesRows place.has_failed place.stage (⟦<RecordsRun<F> as HasRunState>⟧.run_state place.run) place.rows.items) }
+    ensures done { (functions : Functions) (number : ℕ) (first : CheckpointBytes) (h : Header) → IsStoredAs (Begins h) first → h.limits ≡ limits_in limits → functions h.stamp ≡ F.answer (arc_value function.now)
+        → KeepsWhole (job_in job.now) functions (limits_in job.now.limits) number items.now (first ∷ map checkpoint_bytes later.now)
+        → IfOk result (λ place. IsRunDone place.has_failed place.stage (⟦<RecordsRun<F> as HasRunState>⟧.run_state place.run)) }
+    ensures why { (number : ℕ) (first : CheckpointBytes) → ((h : Header) → IsStoredAs (Begins h) first → h.limits ≡ limits_in limits)
+        → IfErr result (IsResumeCause job.now (F.answer (arc_value function.now)) number items.now (first ∷ map checkpoint_bytes later.now)) }
 {
     rules_are_kept();
     rows_are_progress();
-    checkpoints_are_told();
+    bytes_identify_checkpoints();
     let held = read_slice(alloc, limits, later, job.partitions)?;
     refuse_lowered(job.limits, held.limits)?;
     let rows = {
@@ -212,29 +219,22 @@ fn behind<F: RowFunction + Drop>(
         Vec::from_slice(alloc, saved.rows())?
     };
     let (results, faults) = parts_of(alloc, held.partitions)?;
-    let run = RecordsRun::begin_behind(
-        alloc,
-        step,
-        function,
-        items,
-        last.saved.as_bytes(),
-        results,
-    )?;
-    Ok(SlicePlace {
+    let run = RecordsRun::resume(alloc, step, function, items, last.saved.as_bytes(), results)?;
+    Ok(ResumableRun {
         run,
         rows,
         faults,
         has_failed: false,
-        stage: Stage::Underway,
+        stage: Stage::SomeIntervals,
     })
 }
 
-/// Resumes the slice of this number, with these items, after its checkpoints. It begins if there is none, or the header alone. A slice with another
-/// stamp is resumed if the job keeps that stamp. Limits may be raised.
+/// Resumes the slice with this number and these items after its checkpoints. It begins if there are none, or only the header. A slice with another
+/// stamp is resumed if the job accepts that stamp. Limits may be raised.
 ///
 /// # Errors
-/// `Checkpoints` with `OtherJob`, `OtherSlice`, `OtherItems` or `OtherStamp` if the header is refused, with `LoweredLimit`, with `Damaged`, with
-/// `TooLong` if a text or an item is too long for its bytes, and with `Memory`. `Step` if the step isn't begun.
+/// `Checkpoints` with `OtherJob`, `OtherSlice`, `OtherItems` or `OtherStamp` if the header is refused. `Checkpoints` with `TooLong` if a text or an
+/// item is too long for its bytes, and with `LoweredLimit`, `Damaged` or `Memory`. `Step` if the step can't start.
 pub fn resume<F: RowFunction + Drop>(
     alloc: Global,
     job: &SliceJob,
@@ -242,22 +242,22 @@ pub fn resume<F: RowFunction + Drop>(
     function: &Arc<F, Global>,
     items: &PackedList,
     done: &[Checkpoint],
-) -> Result<SlicePlace<F>, SliceRunError>
-    ensures stands { (functions : Functions) → AreOf functions (F.answer (arc_value function.now)) (stamps_in job.now) → KeepsSlice (job_in job.now) functions number items.now (map kept done.now)
-        → IfOk result (λ place. SliceStandsAt (job_in job.now) functions (F.answer (arc_value function.now)) (limits_in job.now.limits) number items.now place.stage (⟦<RecordsRun<F> as Standing>⟧.standing place.run) place.rows.items (map kept done.now)) }
-    ensures faults { (functions : Functions) → KeepsSlice (job_in job.now) functions number items.now (map kept done.now)
-        → IfOk result (λ place. HoldsFaults (map faults_held place.faults.items) (map kept done.now)) }
-    ensures told { IfOk result (λ place. IsTold place.has_failed place.stage (⟦<RecordsRun<F> as Standing>⟧.standing place.run) place.rows.items) }
-    ensures done { (functions : Functions) → AreOf functions (F.answer (arc_value function.now)) (stamps_in job.now)
-        → KeepsWhole (job_in job.now) functions (limits_in job.now.limits) number items.now (map kept done.now)
-        → IfOk result (λ place. place.stage ≡ Underway → IsRunDone place.has_failed place.stage (⟦<RecordsRun<F> as Standing>⟧.standing place.run)) }
+) -> Result<ResumableRun<F>, SliceRunError>
+    ensures stands { (functions : Functions) → AreStampsOf functions (F.answer (arc_value function.now)) (stamps_in job.now) → KeepsSlice (job_in job.now) functions number items.now (map checkpoint_bytes done.now)
+        → IfOk result (λ place. SliceStandsAt (job_in job.now) functions (F.answer (arc_value function.now)) (limits_in job.now.limits) number items.now place.stage (⟦<RecordsRun<F> as HasRunState>⟧.run_state place.run) place.rows.items (map checkpoint_bytes done.now)) }
+    ensures faults { (functions : Functions) → KeepsSlice (job_in job.now) functions number items.now (map checkpoint_bytes done.now)
+        → IfOk result (λ place. HoldsFaults (map faults_held place.faults.items) (map checkpoint_bytes done.now)) }
+    ensures agrees { IfOk result (λ place. StatusMatchesRows place.has_failed place.stage (⟦<RecordsRun<F> as HasRunState>⟧.run_state place.run) place.rows.items) }
+    ensures done { (functions : Functions) → AreStampsOf functions (F.answer (arc_value function.now)) (stamps_in job.now)
+        → KeepsWhole (job_in job.now) functions (limits_in job.now.limits) number items.now (map checkpoint_bytes done.now)
+        → IfOk result (λ place. place.stage ≡ SomeIntervals → IsRunDone place.has_failed place.stage (⟦<RecordsRun<F> as HasRunState>⟧.run_state place.run)) }
     ensures fresh { IfOk result (λ place. place.has_failed ≡ false) }
-    ensures later { 2 ≤ length done.now → IfOk result (λ place. place.stage ≡ Underway) }
-    ensures own { OnOk result (IsFirstOwn (own_header job.now number items.now) (kept_stamps job.now) (map kept done.now)) }
-    ensures cause { IfErr result (IsResumeCause job.now (F.answer (arc_value function.now)) number items.now (map kept done.now)) }
+    ensures later { 2 ≤ length done.now → IfOk result (λ place. place.stage ≡ SomeIntervals) }
+    ensures own { OnOk result (IsFirstOwn (own_header job.now number items.now) (kept_stamps job.now) (map checkpoint_bytes done.now)) }
+    ensures cause { IfErr result (IsResumeCause job.now (F.answer (arc_value function.now)) number items.now (map checkpoint_bytes done.now)) }
 {
     rows_are_progress();
-    checkpoints_are_told();
+    bytes_identify_checkpoints();
     let step = job.step(alloc)?;
     let own = header_of(alloc, job, number, items)?;
     let Some((first, later)) = done.split_first() else {

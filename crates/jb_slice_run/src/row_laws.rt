@@ -5,8 +5,8 @@ ghost use Rattle.jb_slice_run.specs.Step.{StepsDivideSlices};
 
 use jb_records::rules_are_kept;
 
-/// The rows of a slice's step are progresses of its partitions, and back; grown by what is new they are those of later rows, which follow as an
-/// interval; and they have ended as the rows have.
+/// The rows of a slice's step give progresses of its partitions, and these give the rows back. With new output added, progresses are those of the
+/// later rows, and these follow as an interval. Partitions have ended exactly if their rows have.
 pub fn rows_are_progress()
     ensures so_far { RowsAreSoFar }
     ensures back { SoFarAreRows }

@@ -1,4 +1,4 @@
-//! Why a slice isn't resumed, or doesn't go on.
+//! Why a slice isn't resumed, or doesn't continue.
 
 ghost use Rattle.std.specs.Prelude.{◌≡◌};
 ghost use Rattle.jb_records.specs.declared.error.RecordsStepError.TheVariants as fault;
@@ -11,16 +11,16 @@ use jb_step::StepError;
 use std::alloc::{AllocError, AllocFailed};
 use thiserror::Error;
 
-/// Why a slice isn't resumed, or doesn't go on.
+/// Why a slice isn't resumed, or doesn't continue.
 #[derive(Clone, Copy, Debug, PartialEq, Eq, Error)]
 pub enum SliceRunError {
     /// Its checkpoints are refused, or have no bytes.
     #[error("{0}")]
     Checkpoints(SliceError),
-    /// Its step isn't begun, or broke off.
+    /// Its step can't start, or broke off.
     #[error("the slice's step: {0}")]
     Step(RecordsStepError),
-    /// Its items have no numbers below 2^64.
+    /// The number after its last item isn't below 2^64.
     #[error("the slice's items have no numbers below 18,446,744,073,709,551,616")]
     TooMany,
 }

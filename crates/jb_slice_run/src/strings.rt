@@ -3,12 +3,12 @@
 ghost use Rattle.std.specs.Prelude.{◌≡◌, ◌++◌, ◌∷◌, [], map, option_map, IfOk, OnOk};
 ghost use Rattle.std.specs.Option.{ForSome};
 ghost use Rattle.jb_slices.specs.Function.{Fault as SliceFault};
-ghost use Rattle.jb_slice_run.specs.Held.{fault_in, faults_in, header_in, limits_in, news_in};
-ghost use Rattle.jb_slice_run.specs.Strings.{AreFaultsSmall, AreLimitsSmall, AreNewsSmall, AreSetsSmall, IsHeaderSmall, IsNewsSmall, IsSmall, classes_list, fault_string, header_lists, limit_string, limits_list, news_lists, number_string, stop_list};
+ghost use Rattle.jb_slice_run.specs.Held.{fault_in, faults_in, header_in, limits_in, new_output_in};
+ghost use Rattle.jb_slice_run.specs.Strings.{AreFaultsSmall, AreLimitsSmall, AreOutputsSmall, AreSetsSmall, IsHeaderSmall, IsOutputSmall, IsSmall, classes_list, fault_string, header_lists, limit_string, limits_list, new_output_lists, number_string, stop_list};
 
 use crate::fault::Fault;
 use crate::header::{SliceHeader, SliceLimits};
-use crate::news::PartitionNews;
+use crate::partition_output::PartitionOutput;
 use jb_base::PackedList;
 use std::alloc::{AllocError, Global};
 
@@ -20,7 +20,7 @@ fn number_bytes(number: u64) -> [u8; 8]
     number.to_le_bytes()
 }
 
-/// Puts a number after the others.
+/// Adds a number.
 fn push_number(list: &mut PackedList, number: u64) -> Result<(), AllocError>
     ensures put { OnOk result (list.new ≡ list.old ++ number_string number ∷ []) }
     ensures small { OnOk result (IsSmall number) }
@@ -28,7 +28,7 @@ fn push_number(list: &mut PackedList, number: u64) -> Result<(), AllocError>
     list.push(&number_bytes(number))
 }
 
-/// Puts a limit after the others: an empty string if there is none.
+/// Adds a limit: an empty string for no limit.
 fn push_limit(list: &mut PackedList, limit: Option<u64>) -> Result<(), AllocError>
     ensures put { OnOk result (list.new ≡ list.old ++ limit_string limit ∷ []) }
     ensures small { OnOk result (ForSome limit IsSmall) }
@@ -70,7 +70,7 @@ pub(crate) fn limits_list(alloc: Global, limits: SliceLimits) -> Result<PackedLi
     Ok(list)
 }
 
-/// Puts names after the others.
+/// Adds names.
 fn push_names(list: &mut PackedList, names: &[&str]) -> Result<(), AllocError>
     ensures { OnOk result (list.new ≡ list.old ++ map (λ name. name.now) names.now) }
 {
@@ -115,7 +115,7 @@ pub(crate) fn header_lists(
     Ok(lists)
 }
 
-/// Puts a fault after the others: the number of its item, and one byte for its class.
+/// Adds a fault: the number of its item, and one byte for its class.
 fn push_fault(list: &mut PackedList, fault: Fault) -> Result<(), AllocError>
     ensures put { OnOk result (list.new ≡ list.old ++ fault_string (fault_in fault) ∷ []) }
     ensures small { OnOk result (IsSmall fault.number) }
@@ -135,7 +135,7 @@ fn faults_list(alloc: Global, faults: &[Fault]) -> Result<PackedList, AllocError
     Ok(list)
 }
 
-/// The list of the fault by which a partition failed, or none.
+/// The list of the fault by which a partition failed; empty if it didn't fail.
 fn stop_list(alloc: Global, stop: Option<Fault>) -> Result<PackedList, AllocError>
     ensures list { IfOk result (λ list. list ≡ stop_list (option_map fault_in stop)) }
     ensures small { OnOk result (ForSome (option_map fault_in stop) (λ (fault : SliceFault). IsSmall fault.number)) }
@@ -147,37 +147,37 @@ fn stop_list(alloc: Global, stop: Option<Fault>) -> Result<PackedList, AllocErro
     Ok(list)
 }
 
-/// Puts the three lists of a partition after the others.
+/// Adds the three lists of a partition.
 fn push_partition(
     alloc: Global,
     lists: &mut Vec<PackedList>,
-    news: PartitionNews,
+    new_output: PartitionOutput,
 ) -> Result<(), AllocError>
-    ensures put { OnOk result (lists.new.items ≡ lists.old.items ++ news_lists (news_in news ∷ [])) }
-    ensures small { OnOk result (IsNewsSmall (news_in news)) }
+    ensures put { OnOk result (lists.new.items ≡ lists.old.items ++ new_output_lists (new_output_in new_output ∷ [])) }
+    ensures small { OnOk result (IsOutputSmall (new_output_in new_output)) }
 {
-    let PartitionNews {
+    let PartitionOutput {
         results,
         skips,
         stop,
-    } = news;
+    } = new_output;
     lists.push(results)?;
     lists.push(faults_list(alloc, &skips)?)?;
     lists.push(stop_list(alloc, stop)?)?;
     Ok(())
 }
 
-/// Puts the lists of the partitions after the others.
+/// Adds the lists of the partitions.
 pub(crate) fn push_partitions(
     alloc: Global,
     lists: &mut Vec<PackedList>,
-    partitions: Vec<PartitionNews>,
+    partitions: Vec<PartitionOutput>,
 ) -> Result<(), AllocError>
-    ensures put { OnOk result (lists.new.items ≡ lists.old.items ++ news_lists (map news_in partitions.items)) }
-    ensures small { OnOk result (AreNewsSmall (map news_in partitions.items)) }
+    ensures put { OnOk result (lists.new.items ≡ lists.old.items ++ new_output_lists (map new_output_in partitions.items)) }
+    ensures small { OnOk result (AreOutputsSmall (map new_output_in partitions.items)) }
 {
-    'partitions: for news in partitions {
-        push_partition(alloc, lists, news)?;
+    'partitions: for new_output in partitions {
+        push_partition(alloc, lists, new_output)?;
     }
     Ok(())
 }

@@ -38,7 +38,7 @@ fn write_slice(out: &mut Writer, header: &SliceHeader) -> Result<(), AllocError>
     write_number(out, "slice", header.number)
 }
 
-/// Writes how many items it has, and how they are divided.
+/// Writes how many items the slice has, and how they are divided.
 fn write_sizes(out: &mut Writer, header: &SliceHeader) -> Result<(), AllocError>
     ensures sizes { OnOk result (out.new.tokens ≡ out.old.tokens ++ (member_tokens (codes "items") (number_tree (header_in header.now).items)
         ++ (member_tokens (codes "slice-length") (number_tree (header_in header.now).job.slice_length)
@@ -121,7 +121,7 @@ fn write_header(out: &mut Writer, header: &SliceHeader) -> Result<(), AllocError
     out.end_object()
 }
 
-/// The text of bytes that are one.
+/// The text of bytes that are a text.
 fn text_of(bytes: Vec<u8>) -> Result<String, AllocError>
     requires { IsUtf8 bytes.items }
     ensures { IfOk result (λ s. string_bytes s ≡ bytes.items) }

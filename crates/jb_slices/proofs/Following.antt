@@ -2,15 +2,15 @@
 use Rattle.std.proofs.Common.{ℕ, List, [], ◌∷◌, ◌++◌}
 use Rattle.jb_slices.specs.Checkpoint.{Checkpoint}
 use Rattle.jb_slices.specs.Job.{Job}
-use Rattle.jb_slices.specs.Slice.{Follow, Functions, Place, led, next, start}
+use Rattle.jb_slices.specs.Slice.{Follow, Functions, SliceState, led, next, start}
 use Rattle.jb_slices.specs.SliceLaws.{FrontsAreSoFar, OneMoreFollows}
 
-follow-front : (job : Job) (functions : Functions) (number : ℕ) (items : List (List ℕ)) (at : Place) (all more : List Checkpoint)
+follow-front : (job : Job) (functions : Functions) (number : ℕ) (items : List (List ℕ)) (at : SliceState) (all more : List Checkpoint)
     → Follow job functions number items at (all ++ more) → Follow job functions number items at all
 follow-front job functions number items at [] more follow = tt
 follow-front job functions number items at (c ∷ cs) more follow = (follow.0, follow-front job functions number items (next at c) cs more follow.1)
 
-follow-more : (job : Job) (functions : Functions) (number : ℕ) (items : List (List ℕ)) (at : Place) (all more : List Checkpoint)
+follow-more : (job : Job) (functions : Functions) (number : ℕ) (items : List (List ℕ)) (at : SliceState) (all more : List Checkpoint)
     → Follow job functions number items at all → Follow job functions number items (led at all) more → Follow job functions number items at (all ++ more)
 follow-more job functions number items at [] more before later = later
 follow-more job functions number items at (c ∷ cs) more before later = (before.0, follow-more job functions number items (next at c) cs more before.1 later)

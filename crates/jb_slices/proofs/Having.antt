@@ -6,7 +6,7 @@ use Rattle.jb_slices.specs.Checkpoint.{Progress}
 use Rattle.jb_slices.specs.Function.{Function, all_results, faults_from}
 use Rattle.jb_slices.specs.Job.{first_of, rules_of}
 use Rattle.jb_slices.specs.Partitions.{AreFinished, ArePartitionsSoFar, joined_results, joined_skips}
-use Rattle.jb_slices.specs.Slice.{place_of}
+use Rattle.jb_slices.specs.Slice.{slice_state}
 use Rattle.jb_slices.specs.SliceLaws.{WholeSlicesHaveAll, WholeSlicesHaveSkips}
 use Rattle.jb_slices.proofs.Faults.{faults-split, results-append}
 use Rattle.jb_slices.proofs.Lists.{take-twice}
@@ -44,12 +44,12 @@ join-skips f rules first from items (p ∷ ps) parts finished =
 
 pub results : WholeSlicesHaveAll
 results job functions limits number items all w =
-    let at = place_of all in
+    let at = slice_state all in
     join-results (functions at.stamp) (rules_of job at.limits) (first_of job number) 0 items at.partitions w.partitions w.finished
 
 pub skips : WholeSlicesHaveSkips
 skips job functions limits number items all w =
-    let at = place_of all in
+    let at = slice_state all in
     let e : first_of job number + 0 ≡ first_of job number = omega arith in
     join-skips (functions at.stamp) (rules_of job at.limits) (first_of job number) 0 items at.partitions w.partitions w.finished
     ∙ ap (λ (n : ℕ). faults_from (functions at.stamp) n items) e

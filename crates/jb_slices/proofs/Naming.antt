@@ -7,11 +7,11 @@ use Rattle.jb_rules.specs.States.{is_failed}
 use Rattle.jb_rules.specs.declared.row.RowState.{RowState}
 use Rattle.jb_rules.specs.declared.row.RowState.TheVariants.{Failed, Finished, Running, Waiting}
 use Rattle.jb_slices.specs.Checkpoint.{Progress}
-use Rattle.jb_slices.specs.Failures.{EachFailureIsNamed, Failure, FailuresAreNamed, IsFailureOf, count_failed, failed_count, failures_from, failure_and}
+use Rattle.jb_slices.specs.Failures.{EachFailureIsNamed, PartitionFailure, FailuresAreNamed, IsFailureOf, count_failed, failed_count, failures_from, failure_and}
 use Rattle.jb_slices.specs.Function.{Fault, Function}
 use Rattle.jb_slices.specs.Job.{first_of, rules_of}
 use Rattle.jb_slices.specs.Partitions.{ArePartitionsSoFar, IsPartitionSoFar, IsStop}
-use Rattle.jb_slices.specs.Slice.{place_of}
+use Rattle.jb_slices.specs.Slice.{slice_state}
 use Rattle.jb_slices.proofs.Lists.{drop-drop}
 use Rattle.jb_slices.proofs.Passing.{stood}
 
@@ -36,7 +36,7 @@ named-here : (f : Function) (rules : RulesRecord) (first from : ℕ) (all : List
     → IsStop f rules (first + p.row.lo) (slice_range all p.row.lo p.row.hi) fault
 named-here f rules first from all p partition fault lo stop = subst (λ (n : ℕ). IsStop f rules (first + n) (slice_range all n p.row.hi) fault) (sym lo) stop
 
-and-named : (f : Function) (rules : RulesRecord) (first from : ℕ) (all : List (List ℕ)) (p : Progress) (partition : ℕ) (later : List Failure)
+and-named : (f : Function) (rules : RulesRecord) (first from : ℕ) (all : List (List ℕ)) (p : Progress) (partition : ℕ) (later : List PartitionFailure)
     → p.row.lo ≡ from → IsPartitionSoFar f rules (first + from) (take (p.row.hi - from) (drop from all)) p → AllByRecursion (IsFailureOf f rules first all) later
     → (failed : Bool) → is_failed p.row.state ≡ failed → (stop : Option Fault) → p.stop ≡ stop
     → AllByRecursion (IsFailureOf f rules first all) (failure_and partition p.row failed stop later)
@@ -47,7 +47,7 @@ and-named f rules first from all p partition later lo so-far named true e (Some 
 and-named f rules first from all p partition later lo so-far named true e None is = named
 and-named f rules first from all p partition later lo so-far named false e stop is = named
 
-and-counted : (p : Progress) (partition : ℕ) (later : List Failure) (count : ℕ) → (p.row.state ≡ Failed → (fault : Fault) × (p.stop ≡ Some fault)) → length later ≡ count
+and-counted : (p : Progress) (partition : ℕ) (later : List PartitionFailure) (count : ℕ) → (p.row.state ≡ Failed → (fault : Fault) × (p.stop ≡ Some fault)) → length later ≡ count
     → (failed : Bool) → is_failed p.row.state ≡ failed → (stop : Option Fault) → p.stop ≡ stop
     → length (failure_and partition p.row failed stop later) ≡ failed_count failed count
 and-counted p partition later count has counted true e (Some fault) is = ap suc counted
@@ -77,7 +77,7 @@ counted f rules first from items (p ∷ ps) partition parts =
 
 pub each : FailuresAreNamed
 each job functions number items all so-far =
-    let at = place_of all in
+    let at = slice_state all in
     elim (stood job functions number items all so-far) [
       | inl none ↦ subst (λ (ps : List Progress). AllByRecursion (IsFailureOf (functions at.stamp) (rules_of job at.limits) (first_of job number) items) (failures_from 0 ps)) (sym none) tt
       | inr standing ↦ named (functions at.stamp) (rules_of job at.limits) (first_of job number) 0 items items at.partitions 0 refl standing.so_far
@@ -85,7 +85,7 @@ each job functions number items all so-far =
 
 pub all-of-them : EachFailureIsNamed
 all-of-them job functions number items all so-far =
-    let at = place_of all in
+    let at = slice_state all in
     elim (stood job functions number items all so-far) [
       | inl none ↦ subst (λ (ps : List Progress). length (failures_from 0 ps) ≡ count_failed ps) (sym none) refl
       | inr standing ↦ counted (functions at.stamp) (rules_of job at.limits) (first_of job number) 0 items at.partitions 0 standing.so_far

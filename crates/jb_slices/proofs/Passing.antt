@@ -10,7 +10,7 @@ use Rattle.jb_slices.specs.Function.{Fault, Function, ItemsPass, refusal_of}
 use Rattle.jb_slices.specs.Job.{Job, Limits, first_of, rules_of}
 use Rattle.jb_slices.specs.Partitions.{AreFinished, ArePartitionsSoFar, HasFailed, IsStop, ranges_of}
 use Rattle.jb_slices.specs.Passing.{RangesPass, SlicePasses}
-use Rattle.jb_slices.specs.Slice.{Follow, Functions, IsNext, IsPlaceSoFar, IsSliceSoFar, Place, led, next, place_of, start}
+use Rattle.jb_slices.specs.Slice.{Follow, Functions, IsNext, IsStateSoFar, IsSliceSoFar, SliceState, led, next, slice_state, start}
 use Rattle.jb_slices.specs.SliceLaws.{FailedSlicesDont, StopsAreOne, WholeSlicesPass}
 use Rattle.jb_slices.proofs.Faults.{items-pass-front, pass-none}
 use Rattle.jb_slices.proofs.Having.{own-whole}
@@ -51,33 +51,33 @@ no-items f rules first items (p ∷ ps) none parts = cc
 
 -- ---- where checkpoints lead
 
-pub record IsStanding (job : Job) (functions : Functions) (number : ℕ) (items : List (List ℕ)) (at : Place) : Type 0 where
+pub record IsStanding (job : Job) (functions : Functions) (number : ℕ) (items : List (List ℕ)) (at : SliceState) : Type 0 where
   pub begun : at.begun ≡ true
   pub ranges : ranges_of at.partitions ≡ even_ranges (length items) job.partitions
-  pub so_far : IsPlaceSoFar job functions number items at
+  pub so_far : IsStateSoFar job functions number items at
 
 -- no interval is kept, or the last one
-abbrev pub HasStood : Job → Functions → (number : ℕ) → (items : List (List ℕ)) → Place → Type 0
+abbrev pub HasStood : Job → Functions → (number : ℕ) → (items : List (List ℕ)) → SliceState → Type 0
 HasStood job functions number items at = (at.partitions ≡ []) ⊎ IsStanding job functions number items at
 
-stood-next : (job : Job) (functions : Functions) (number : ℕ) (items : List (List ℕ)) (at : Place) (c : Checkpoint)
+stood-next : (job : Job) (functions : Functions) (number : ℕ) (items : List (List ℕ)) (at : SliceState) (c : Checkpoint)
     → IsNext job functions number items at c → HasStood job functions number items (next at c)
 stood-next job functions number items at (Begins header) fits = inl refl
 stood-next job functions number items at (GoesOn i) fits = inr (record { begun = fits.begun; ranges = fits.ranges; so_far = fits.so_far })
 
-stood-led : (job : Job) (functions : Functions) (number : ℕ) (items : List (List ℕ)) (at : Place) (cs : List Checkpoint)
+stood-led : (job : Job) (functions : Functions) (number : ℕ) (items : List (List ℕ)) (at : SliceState) (cs : List Checkpoint)
     → HasStood job functions number items at → Follow job functions number items at cs → HasStood job functions number items (led at cs)
 stood-led job functions number items at [] stood follow = stood
 stood-led job functions number items at (c ∷ cs) stood follow =
     stood-led job functions number items (next at c) cs (stood-next job functions number items at c follow.0) follow.1
 
 pub stood : (job : Job) (functions : Functions) (number : ℕ) (items : List (List ℕ)) (all : List Checkpoint)
-    → IsSliceSoFar job functions number items all → HasStood job functions number items (place_of all)
+    → IsSliceSoFar job functions number items all → HasStood job functions number items (slice_state all)
 stood job functions number items all so-far = stood-led job functions number items start all (inl refl) so-far
 
 pub whole : WholeSlicesPass
 whole job functions limits number items all w =
-    let at = place_of all in
+    let at = slice_state all in
     let f = functions at.stamp in
     let rules = rules_of job at.limits in
     let first = first_of job number in
@@ -89,7 +89,7 @@ whole job functions limits number items all w =
 
 -- a failed slice has an interval
 pub stands : (job : Job) (functions : Functions) (number : ℕ) (items : List (List ℕ)) (all : List Checkpoint)
-    → IsSliceSoFar job functions number items all → HasFailed (place_of all).partitions → IsStanding job functions number items (place_of all)
+    → IsSliceSoFar job functions number items all → HasFailed (slice_state all).partitions → IsStanding job functions number items (slice_state all)
 stands job functions number items all so-far failed =
     elim (stood job functions number items all so-far) [
       | inl none ↦ absurd (subst (λ (ps : List Progress). HasFailed ps) none failed)
@@ -98,7 +98,7 @@ stands job functions number items all so-far failed =
 
 pub failed : FailedSlicesDont
 failed job functions limits number items all w pass =
-    let at = place_of all in
+    let at = slice_state all in
     let f = functions at.stamp in
     let standing = stands job functions number items all w.so_far w.failed in
     let here : SlicePasses job at.limits f items = subst (λ (l : Limits). SlicePasses job l f items) (sym w.limits_are) pass in

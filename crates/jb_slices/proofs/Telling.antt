@@ -3,13 +3,13 @@ use Rattle.std.proofs.Common.{◌≡◌, refl, ap, sym, ◌∙◌}
 use Rattle.jb_slices.specs.Checkpoint.{Begins, GoesOn, Header, header_of}
 use Rattle.jb_slices.specs.Job.{Classes, HaveInCommon, IdentityPart, ItemCount, Job, Name, Partitions, SliceLength}
 use Rattle.jb_slices.specs.Refusals.{OwnSlicesArentRefused}
-use Rattle.jb_slices.specs.SliceLaws.{HeadersTell, SlicesAreTold}
+use Rattle.jb_slices.specs.SliceLaws.{FirstIsHeader, HeadersIdentifySlices}
 
-pub headers : HeadersTell
+pub headers : FirstIsHeader
 headers job functions number items (Begins header) cs so-far = (header, refl, so-far.0.header_is)
 headers job functions number items (GoesOn i) cs so-far = let e = so-far.0.begun in cc
 
-pub told : SlicesAreTold
+pub told : HeadersIdentifySlices
 told job other functions others number m items texts (Begins header) cs ds here there =
     let same : header_of job header.limits header.stamp number items ≡ header_of other header.limits header.stamp m texts = sym here.0.header_is ∙ there.0.header_is in
     (ap (λ (h : Header). h.job) same, ap (λ (h : Header). h.number) same, ap (λ (h : Header). h.digest) same)

@@ -1,4 +1,4 @@
--- A job of three items in slices of two, the second of which has a fault: it fails where no skip is allowed, and a raised limit lets it go on.
+-- A job of three items in slices of two. The second item has a fault. The job fails if no skip is allowed, and a raised limit lets it continue.
 use Rattle.std.specs.Prelude.{ℕ, zero, suc, ◌==◌, if◌then◌else◌, List, [], ◌∷◌, ◌++◌, Some, None, slice_index, slice_index_or}
 use Rattle.jb_base.specs.declared.class.ClassId.{ClassId}
 use Rattle.jb_base.specs.Classes.{class_of}
@@ -60,7 +60,7 @@ row_at hi at skipped state = record {
 abbrev pub fault_of_nine : Fault
 fault_of_nine = record { number = 1; class = class_five }
 
--- the first slice with no skip allowed
+-- the first slice, with no skip allowed
 abbrev pub failed_slice : List Checkpoint
 failed_slice =
     Begins (header_of example_job (limits_of 0) [] 0 (item_of 1 ∷ item_of 9 ∷ []))
@@ -70,7 +70,7 @@ failed_slice =
     })
     ∷ []
 
--- and after that, with one
+-- the same slice after a further run, with one skip allowed
 abbrev pub raised_slice : List Checkpoint
 raised_slice =
     failed_slice

@@ -8,7 +8,7 @@ use Rattle.jb_rows.specs.Answers as rows
 use Rattle.jb_rows.specs.Fields.{Fields, fields_in, packed}
 use Rattle.jb_rules.specs.Decide.{has_class}
 
--- what is answered for the fields of an item; an item is a record, its fields packed in one string of bytes
+-- the answer for the fields of an item; an item is a record, its fields packed in one string of bytes
 abbrev pub Function : Type 0
 Function = Fields → Answer
 
@@ -27,7 +27,7 @@ result_of f item = result_in (f (fields_in item))
 abbrev pub refusal_of : Function → (item : List ℕ) → Option ClassId
 refusal_of f item = refusal_in (f (fields_in item))
 
--- THE RESULTS of items, in order, of those that have one
+-- THE RESULTS of the items that have one, in order
 abbrev pub all_results : Function → (items : List (List ℕ)) → List (List ℕ)
 all_results f items = filter_map (result_of f) items
 
@@ -49,8 +49,8 @@ abbrev pub faults_from : Function → (first : ℕ) → (items : List (List ℕ)
 faults_from f first [] = []
 faults_from f first (item ∷ items) = fault_and first (refusal_of f item) (faults_from f (suc first) items)
 
--- THE RULES LET THESE FAULTS PASS: each may be skipped, and they are no more than the limit. A function's fault comes at each try, so no
--- retry changes it.
+-- THE RULES LET THESE FAULTS PASS: each may be skipped, and they are no more than the limit. A function gives the same fault at each try, so
+-- a retry changes nothing.
 pub record Pass (rules : RulesRecord) (classes : List ClassId) : Type 0 where
   pub skippable : AllByRecursion (λ class. has_class rules.skippable class ≡ true) classes
   pub few : MatchOption rules.skip_limit ⊤ (λ limit. length classes ≤ limit)

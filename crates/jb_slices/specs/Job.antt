@@ -9,7 +9,7 @@ pub record FaultClasses : Type 0 where
   pub retryable : ℕ
   pub no_rollback : ℕ
 
--- A JOB'S IDENTITY: what no later call may change. A slice has so many items, but for the last one.
+-- A JOB'S IDENTITY: what no later call may change. Each slice but the last one has `slice_length` items.
 pub record Job : Type 0 where
   pub name : List ℕ
   pub slice_length : ℕ
@@ -34,13 +34,13 @@ rules_of job limits = record {
 
 -- ---- A LIMIT MAY BE RAISED
 
--- it stays or is raised; to have none is the highest
+-- the limit stays or is raised; no limit is the highest
 abbrev pub IsRaised : (before after : Option ℕ) → Type 0
 IsRaised before None = ⊤
 IsRaised None (Some after) = ⊥
 IsRaised (Some before) (Some after) = before ≤ after
 
--- each of the limits is
+-- each of the limits stays or is raised
 pub record AreRaised (before after : Limits) : Type 0 where
   pub skips : IsRaised before.skips after.skips
   pub job_skips : IsRaised before.job_skips after.job_skips
@@ -73,7 +73,7 @@ first_of job number = number * job.slice_length
 abbrev pub slice_at : Job → (items : List (List ℕ)) → (number : ℕ) → List (List ℕ)
 slice_at job items number = take job.slice_length (drop (first_of job number) items)
 
--- there is such a slice: all items before it are there
+-- the slice exists: all items before it are there
 abbrev pub HasSlice : Job → (items : List (List ℕ)) → (number : ℕ) → Type 0
 HasSlice job items number = first_of job number ≤ length items
 

@@ -7,8 +7,8 @@ use Rattle.jb_slices.specs.Job.{HasSlice, IsLastSlice, Job, Limits, first_of, sl
 use Rattle.jb_slices.specs.Passing.{AllPass}
 use Rattle.jb_slices.specs.Slice.{Functions, IsSliceSoFar}
 
--- THE LAW: the results of whole slices, written in order from the first one on, are a front of the results of all items. Which slices
--- after them have begun, or failed, doesn't matter.
+-- THE LAW: the results of whole slices, written in order from the first one on, are a front of the results of all items. It doesn't matter
+-- whether a slice after them has started or failed.
 abbrev pub WholeSlicesAreAFront : Type 0
 WholeSlicesAreAFront =
     (job : Job) (functions : Functions) (limits : Limits) (items : List (List ℕ)) (folder : Folder) (stamp : List ℕ) (count : ℕ)
@@ -22,7 +22,7 @@ WholeJobsHaveAll =
     → (whole : IsJobWhole job functions limits items folder) → HaveStamp stamp folder (suc whole.last)
     → results_before folder (suc whole.last) ≡ all_results (functions stamp) items
 
--- THE LAW: and it skipped the faults of all items
+-- THE LAW: a whole job skipped the faults of all items
 abbrev pub WholeJobsHaveSkips : Type 0
 WholeJobsHaveSkips =
     (job : Job) (functions : Functions) (limits : Limits) (items : List (List ℕ)) (folder : Folder) (stamp : List ℕ)
@@ -33,20 +33,20 @@ WholeJobsHaveSkips =
 abbrev pub LastSlicesAreOne : Type 0
 LastSlicesAreOne = (job : Job) (items : List (List ℕ)) (last other : ℕ) → IsLastSlice job items last → IsLastSlice job items other → last ≡ other
 
--- THE LAW: the items of a whole job pass the rules; so COMPLETED can't stand where the rules say FAILED
+-- THE LAW: the items of a whole job pass the rules; so a job can't be COMPLETED if the rules say FAILED
 abbrev pub WholeJobsPass : Type 0
 WholeJobsPass =
     (job : Job) (functions : Functions) (limits : Limits) (items : List (List ℕ)) (folder : Folder) (stamp : List ℕ)
     → (whole : IsJobWhole job functions limits items folder) → HaveStamp stamp folder (suc whole.last) → AllPass job limits (functions stamp) items
 
--- THE LAW: and those of a failed one don't
+-- THE LAW: the items of a failed job don't pass the rules
 abbrev pub FailedJobsDont : Type 0
 FailedJobsDont =
     (job : Job) (functions : Functions) (limits : Limits) (items : List (List ℕ)) (folder : Folder) (stamp : List ℕ)
     → IsJobFailed job functions limits items folder → ((count : ℕ) → HaveStamp stamp folder count) → AllPass job limits (functions stamp) items → ⊥
 
--- THE LAW: a job that has ended is whole or has failed. So by the two laws above it is whole exactly where its items pass, and has failed
--- exactly where they don't.
+-- THE LAW: a job that has ended is whole or has failed. So, by the two laws above, it is whole exactly if its items pass. It has failed exactly
+-- if they don't.
 abbrev pub EndedJobsAreEither : Type 0
 EndedJobsAreEither =
     (job : Job) (functions : Functions) (limits : Limits) (items : List (List ℕ)) (folder : Folder) → IsJobEnded job functions limits items folder
@@ -58,14 +58,15 @@ EndedJobsAreEither =
 abbrev pub replaced : Folder → (number : ℕ) → List Checkpoint → Folder
 replaced folder number all k = if nat_eq k number then all else folder k
 
--- THE LAW: whatever is done to the list of one slice, the job is so far if that slice is: a call goes on with it, or its file is deleted
+-- THE LAW: a job so far stays so far if the list of one slice is replaced by another list so far. A call may continue that slice, or its file
+-- may be deleted.
 abbrev pub SlicesAreApart : Type 0
 SlicesAreApart =
     (job : Job) (functions : Functions) (items : List (List ℕ)) (folder : Folder) (number : ℕ) (all : List Checkpoint)
     → IsJobSoFar job functions items folder → HasSlice job items number → IsSliceSoFar job functions number (slice_at job items number) all
     → IsJobSoFar job functions items (replaced folder number all)
 
--- THE LAW: where no slice is begun from this number on, the items of these may be others
+-- THE LAW: if no slice from this number on has a checkpoint, the items of these slices may change
 abbrev pub LaterItemsDontMatter : Type 0
 LaterItemsDontMatter =
     (job : Job) (functions : Functions) (items others : List (List ℕ)) (folder : Folder) (count : ℕ)

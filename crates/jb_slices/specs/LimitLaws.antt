@@ -7,7 +7,7 @@ use Rattle.jb_slices.specs.Job.{AreRaised, HaveInCommon, IdentityPart, Job, Limi
 use Rattle.jb_slices.specs.Passing.{AllPass}
 use Rattle.jb_slices.specs.Slice.{Functions}
 
--- THE LAW: what passed still passes by raised limits
+-- THE LAW: faults that pass still pass under raised limits
 abbrev pub RaisedLimitsPass : Type 0
 RaisedLimitsPass =
     (job : Job) (before after : Limits) (classes : List ClassId) → AreRaised before after → Pass (rules_of job before) classes → Pass (rules_of job after) classes
@@ -17,12 +17,12 @@ abbrev pub RaisedLimitsPassAll : Type 0
 RaisedLimitsPassAll =
     (job : Job) (before after : Limits) (f : Function) (items : List (List ℕ)) → AreRaised before after → AllPass job before f items → AllPass job after f items
 
--- THE LAW: a whole job is whole by raised limits, so none of it is run again
+-- THE LAW: a whole job stays whole under raised limits, so none of it is run again
 abbrev pub RaisedJobsStayWhole : Type 0
 RaisedJobsStayWhole =
     (job : Job) (functions : Functions) (before after : Limits) (items : List (List ℕ)) (folder : Folder)
     → AreRaised before after → IsJobWhole job functions before items folder → IsJobWhole job functions after items folder
 
--- THE LAW: two jobs with each part in common are one, so that another job differs in a part that can be named
+-- THE LAW: two jobs with each part in common are one; so a different job differs in a part that can be named
 abbrev pub PartsMakeAnIdentity : Type 0
 PartsMakeAnIdentity = (job other : Job) → ((part : IdentityPart) → HaveInCommon part job other) → job ≡ other

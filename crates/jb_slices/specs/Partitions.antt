@@ -11,7 +11,7 @@ use Rattle.jb_slices.specs.Function.{Fault, Function, ItemsPass, all_results, fa
 
 -- ---- one partition
 
--- THE FAULT BY WHICH A PARTITION FAILS, the first of its items having this number: all items before it pass, and with it they don't
+-- THE FAULT BY WHICH A PARTITION FAILS: all items before it pass, and with it they don't. The partition's first item has the number `first`.
 pub record IsStop (f : Function) (rules : RulesRecord) (first : ℕ) (own : List (List ℕ)) (fault : Fault) : Type 0 where
   pub before : ℕ
   pub within : before < length own
@@ -20,11 +20,11 @@ pub record IsStop (f : Function) (rules : RulesRecord) (first : ℕ) (own : List
   pub passed : ItemsPass f rules (take before own)
   pub fails : ItemsPass f rules (take (suc before) own) → ⊥
 
--- its own items before its checkpoint
+-- the partition's items before its checkpoint
 abbrev pub passed_items : (own : List (List ℕ)) → Progress → List (List ℕ)
 passed_items own p = take (p.row.at - p.row.lo) own
 
--- these passed, and their results and faults are here, as many as the row counts; it failed only by the fault that is named
+-- These items passed. Their results and faults are here, as many as the row counts. The partition failed only by the named fault.
 pub record IsPartitionSoFar (f : Function) (rules : RulesRecord) (first : ℕ) (own : List (List ℕ)) (p : Progress) : Type 0 where
   pub results : p.results ≡ all_results f (passed_items own p)
   pub skips : p.skips ≡ faults_from f first (passed_items own p)
@@ -37,7 +37,8 @@ pub record IsPartitionSoFar (f : Function) (rules : RulesRecord) (first : ℕ) (
 
 -- ---- all of a slice
 
--- one after the other, they have these items. The slice's first item has the number `first` in the job, and these begin `from` items later.
+-- The partitions, one after the other, have these items. The slice's first item has the number `first` in the job. These items begin `from`
+-- items later.
 abbrev pub ArePartitionsSoFar : Function → RulesRecord → (first from : ℕ) → (items : List (List ℕ)) → List Progress → Type 0
 ArePartitionsSoFar f rules first from items [] = items ≡ []
 ArePartitionsSoFar f rules first from items (p ∷ ps) =
@@ -59,7 +60,7 @@ HasFailed (p ∷ ps) = (p.row.state ≡ Failed) ⊎ HasFailed ps
 
 -- ---- from checkpoint to checkpoint
 
--- how far it is now, and what is new after what there was
+-- how far the partition is now; what is new comes after what there was
 abbrev pub grown_by : (before now : Progress) → Progress
 grown_by before now = record now { results = before.results ++ now.results; skips = before.skips ++ now.skips }
 
@@ -68,7 +69,7 @@ grown [] now = now
 grown (b ∷ bs) [] = []
 grown (b ∷ bs) (n ∷ ns) = grown_by b n ∷ grown bs ns
 
--- what they have, one after the other
+-- what the partitions have, one after the other
 abbrev pub joined_results : List Progress → List (List ℕ)
 joined_results ps = flat_map (λ (p : Progress). p.results) ps
 

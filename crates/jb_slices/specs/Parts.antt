@@ -6,6 +6,6 @@ use Rattle.jb_slices.specs.Folder.{Folder}
 abbrev pub IsInPart : (part of number : ℕ) → Type 0
 IsInPart part of number = (round : ℕ) × (number ≡ part + round * of)
 
--- A COLLECT: of each slice the list of the folder where it was run. One folder for all parts is the case of one.
+-- A COLLECT: each slice's list comes from the folder in which the slice ran. All parts may share one folder.
 abbrev pub collected : (folders : ℕ → Folder) → (folder_of : (number : ℕ) → ℕ) → Folder
 collected folders folder_of k = folders (folder_of k) k

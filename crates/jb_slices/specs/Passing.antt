@@ -11,7 +11,7 @@ abbrev pub RangesPass : Function → RulesRecord → (from : ℕ) → (items : L
 RangesPass f rules from items [] = ⊤
 RangesPass f rules from items (range ∷ ranges) = ItemsPass f rules (take (range.hi - from) items) × RangesPass f rules range.hi (drop (range.hi - from) items) ranges
 
--- those of each partition of a slice
+-- the items of each partition of a slice pass
 abbrev pub SlicePasses : Job → Limits → Function → (items : List (List ℕ)) → Type 0
 SlicePasses job limits f items = RangesPass f (rules_of job limits) 0 items (even_ranges (length items) job.partitions)
 

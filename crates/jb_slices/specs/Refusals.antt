@@ -2,9 +2,9 @@
 use Rattle.std.specs.Prelude.{ℕ, ◌≢◌, List, ◌∷◌, Contains}
 use Rattle.jb_slices.specs.Checkpoint.{Begins, Checkpoint, Header, digest_of}
 use Rattle.jb_slices.specs.Job.{AreRaised, HaveInCommon, IdentityPart, Job, Limits}
-use Rattle.jb_slices.specs.Slice.{Functions, IsSliceSoFar, place_of}
+use Rattle.jb_slices.specs.Slice.{Functions, IsSliceSoFar, slice_state}
 
--- it is of another job, which differs in this part
+-- the header is of another job, which differs in this part
 abbrev pub IsOtherJob : Job → IdentityPart → Header → Type 0
 IsOtherJob job part header = HaveInCommon part job header.job → ⊥
 
@@ -16,15 +16,15 @@ IsOtherSlice number header = header.number ≢ number
 abbrev pub HasOtherItems : (items : List (List ℕ)) → Header → Type 0
 HasOtherItems items header = header.digest ≢ digest_of items
 
--- of another stamp than the call's, and than those that the call keeps
+-- of a stamp that is neither the call's nor one of those that the call accepts
 abbrev pub HasOtherStamp : (stamp : List ℕ) → (kept : List (List ℕ)) → Header → Type 0
 HasOtherStamp stamp kept header = Contains (stamp ∷ kept) header.stamp → ⊥
 
--- a limit is lower than that of its last checkpoint
+-- a limit is lower than in the list's last checkpoint
 abbrev pub HasLoweredLimit : Limits → List Checkpoint → Type 0
-HasLoweredLimit limits all = AreRaised (place_of all).limits limits → ⊥
+HasLoweredLimit limits all = AreRaised (slice_state all).limits limits → ⊥
 
--- THE LAW: a slice so far of this job, under this number and over these items, is refused for none of the first three
+-- THE LAW: a slice so far of this job, with this number and these items, is refused for none of the first three reasons
 abbrev pub OwnSlicesArentRefused : Type 0
 OwnSlicesArentRefused =
     (job : Job) (functions : Functions) (number : ℕ) (items : List (List ℕ)) (header : Header) (cs : List Checkpoint) (part : IdentityPart)

@@ -1,4 +1,4 @@
--- THE CHECKPOINTS OF ONE SLICE, which its file has: each follows where those before it lead.
+-- THE CHECKPOINTS OF ONE SLICE, as its file has them: each may follow the state to which those before it lead.
 use Rattle.std.specs.Prelude.{ℕ, ◌≡◌, Bool, true, false, List, [], ◌∷◌, length, None, ⊤}
 use Rattle.jb_mapper.specs.EvenCover.{even_ranges}
 use Rattle.jb_slices.specs.Checkpoint.{Begins, Checkpoint, GoesOn, Header, Interval, Progress, header_of}
@@ -12,80 +12,80 @@ Functions = (stamp : List ℕ) → Function
 
 -- ---- where they lead
 
--- whether the slice is begun, by which stamp; the limits of its last checkpoint; and its partitions
-pub record Place : Type 0 where
+-- whether the slice has a header, and with which stamp; the limits of its last checkpoint; and its partitions
+pub record SliceState : Type 0 where
   pub begun : Bool
   pub stamp : List ℕ
   pub limits : Limits
   pub partitions : List Progress
 
-abbrev pub start : Place
+abbrev pub start : SliceState
 start = record { begun = false; stamp = []; limits = record { skips = None; job_skips = None; retries = 0 }; partitions = [] }
 
-abbrev pub next : Place → Checkpoint → Place
+abbrev pub next : SliceState → Checkpoint → SliceState
 next at (Begins header) = record { begun = true; stamp = header.stamp; limits = header.limits; partitions = [] }
 next at (GoesOn i) = record at { limits = i.limits; partitions = grown at.partitions i.partitions }
 
-abbrev pub led : Place → List Checkpoint → Place
+abbrev pub led : SliceState → List Checkpoint → SliceState
 led at [] = at
 led at (c ∷ cs) = led (next at c) cs
 
-abbrev pub place_of : List Checkpoint → Place
-place_of all = led start all
+abbrev pub slice_state : List Checkpoint → SliceState
+slice_state all = led start all
 
--- its stamp, and the results and the skipped faults that it has
+-- the slice's stamp, its results and its skipped faults
 abbrev pub stamp_of : List Checkpoint → List ℕ
-stamp_of all = (place_of all).stamp
+stamp_of all = (slice_state all).stamp
 
 abbrev pub results_in : List Checkpoint → List (List ℕ)
-results_in all = joined_results (place_of all).partitions
+results_in all = joined_results (slice_state all).partitions
 
 abbrev pub skips_in : List Checkpoint → List Fault
-skips_in all = joined_skips (place_of all).partitions
+skips_in all = joined_skips (slice_state all).partitions
 
 -- ---- which may follow
 
--- the partitions of the place are so far, by the function of its stamp and its limits
-abbrev pub IsPlaceSoFar : Job → Functions → (number : ℕ) → (items : List (List ℕ)) → Place → Type 0
-IsPlaceSoFar job functions number items at = ArePartitionsSoFar (functions at.stamp) (rules_of job at.limits) (first_of job number) 0 items at.partitions
+-- the partitions of the state are so far, by the function of its stamp and by its limits
+abbrev pub IsStateSoFar : Job → Functions → (number : ℕ) → (items : List (List ℕ)) → SliceState → Type 0
+IsStateSoFar job functions number items at = ArePartitionsSoFar (functions at.stamp) (rules_of job at.limits) (first_of job number) 0 items at.partitions
 
 -- the header is the first one
-pub record IsBegin (job : Job) (number : ℕ) (items : List (List ℕ)) (at : Place) (header : Header) : Type 0 where
+pub record IsBegin (job : Job) (number : ℕ) (items : List (List ℕ)) (at : SliceState) (header : Header) : Type 0 where
   pub first : at.begun ≡ false
   pub header_is : header ≡ header_of job header.limits header.stamp number items
 
--- an interval goes on by the same limits or raised ones
-pub record IsInterval (job : Job) (functions : Functions) (number : ℕ) (items : List (List ℕ)) (at : Place) (i : Interval) : Type 0 where
+-- an interval continues under the same limits or raised ones
+pub record IsInterval (job : Job) (functions : Functions) (number : ℕ) (items : List (List ℕ)) (at : SliceState) (i : Interval) : Type 0 where
   pub begun : at.begun ≡ true
   pub raised : AreRaised at.limits i.limits
   pub ranges : ranges_of (next at (GoesOn i)).partitions ≡ even_ranges (length items) job.partitions
-  pub so_far : IsPlaceSoFar job functions number items (next at (GoesOn i))
+  pub so_far : IsStateSoFar job functions number items (next at (GoesOn i))
 
-abbrev pub IsNext : Job → Functions → (number : ℕ) → (items : List (List ℕ)) → Place → Checkpoint → Type 0
+abbrev pub IsNext : Job → Functions → (number : ℕ) → (items : List (List ℕ)) → SliceState → Checkpoint → Type 0
 IsNext job functions number items at (Begins header) = IsBegin job number items at header
 IsNext job functions number items at (GoesOn i) = IsInterval job functions number items at i
 
-abbrev pub Follow : Job → Functions → (number : ℕ) → (items : List (List ℕ)) → Place → List Checkpoint → Type 0
+abbrev pub Follow : Job → Functions → (number : ℕ) → (items : List (List ℕ)) → SliceState → List Checkpoint → Type 0
 Follow job functions number items at [] = ⊤
 Follow job functions number items at (c ∷ cs) = IsNext job functions number items at c × Follow job functions number items (next at c) cs
 
 -- ---- A SLICE'S LIST
 
--- SO FAR: none or some checkpoints of the slice of this number, of which these are the items
+-- SO FAR: none or some checkpoints of the slice with this number and these items
 abbrev pub IsSliceSoFar : Job → Functions → (number : ℕ) → (items : List (List ℕ)) → List Checkpoint → Type 0
 IsSliceSoFar job functions number items all = Follow job functions number items start all
 
--- WHOLE: each partition is at its end, by these limits or lower ones. A slice without items is whole with its header.
+-- WHOLE: each partition has finished, under these limits or lower ones. A slice without items is whole with its header.
 pub record IsSliceWhole (job : Job) (functions : Functions) (limits : Limits) (number : ℕ) (items : List (List ℕ)) (all : List Checkpoint) : Type 0 where
   pub so_far : IsSliceSoFar job functions number items all
-  pub begun : (place_of all).begun ≡ true
-  pub raised : AreRaised (place_of all).limits limits
-  pub partitions : IsPlaceSoFar job functions number items (place_of all)
-  pub finished : AreFinished (place_of all).partitions
+  pub begun : (slice_state all).begun ≡ true
+  pub raised : AreRaised (slice_state all).limits limits
+  pub partitions : IsStateSoFar job functions number items (slice_state all)
+  pub finished : AreFinished (slice_state all).partitions
 
--- FAILED by these limits: each partition has ended, and one has failed
+-- FAILED under these limits: each partition has ended, and one has failed
 pub record IsSliceFailed (job : Job) (functions : Functions) (limits : Limits) (number : ℕ) (items : List (List ℕ)) (all : List Checkpoint) : Type 0 where
   pub so_far : IsSliceSoFar job functions number items all
-  pub limits_are : (place_of all).limits ≡ limits
-  pub ended : HaveEnded (place_of all).partitions
-  pub failed : HasFailed (place_of all).partitions
+  pub limits_are : (slice_state all).limits ≡ limits
+  pub ended : HaveEnded (slice_state all).partitions
+  pub failed : HasFailed (slice_state all).partitions

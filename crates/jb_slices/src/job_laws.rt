@@ -15,19 +15,19 @@ pub fn one_slice_is_last()
     ensures { LastSlicesAreOne }
 {}
 
-/// A job completes only where its items pass the rules, and fails only where they don't; once it has ended it is the one or the other.
+/// A job completes only if its items pass the rules, and fails only if they don't. Once it has ended, it has completed or failed.
 pub fn jobs_follow_the_rules()
     ensures completed { WholeJobsPass }
     ensures failed { FailedJobsDont }
     ensures either { EndedJobsAreEither }
 {}
 
-/// What is done to one slice's list leaves those of the others.
+/// A change to one slice's list leaves the lists of the others.
 pub fn slices_are_apart()
     ensures { SlicesAreApart }
 {}
 
-/// Items of slices that haven't begun may change.
+/// Items of slices that haven't started may change.
 pub fn later_items_dont_matter()
     ensures { LaterItemsDontMatter }
 {}

@@ -5,7 +5,7 @@ ghost use Rattle.jb_slices.specs.Example.{SomeAreSoFar, SomeAreWhole, SomeFail};
 ghost use Rattle.jb_slices.specs.LimitLaws.{PartsMakeAnIdentity, RaisedJobsStayWhole, RaisedLimitsPass, RaisedLimitsPassAll};
 ghost use Rattle.jb_slices.specs.PartLaws.{CollectsAreJobs, EachIsInAPart, PartsAreApart};
 
-/// What passed still passes by raised limits, and a whole job stays whole.
+/// What passed still passes under raised limits, and a whole job stays whole.
 pub fn raised_limits_keep()
     ensures each { RaisedLimitsPass }
     ensures all { RaisedLimitsPassAll }
@@ -31,7 +31,7 @@ pub fn choices_are_the_rules()
     ensures end { RetriesEnd }
 {}
 
-/// There are such checkpoints: those of a whole job, of one that failed, and of one that goes on though a slice failed.
+/// Such checkpoints exist: those of a whole job, of a failed one, and of one that continues though a slice failed.
 pub fn some_are_there()
     ensures whole { SomeAreWhole }
     ensures failed { SomeFail }

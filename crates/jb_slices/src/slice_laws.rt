@@ -2,7 +2,7 @@
 
 ghost use Rattle.jb_slices.specs.Failures.{EachFailureIsNamed, FailuresAreNamed};
 ghost use Rattle.jb_slices.specs.Refusals.{OwnSlicesArentRefused};
-ghost use Rattle.jb_slices.specs.SliceLaws.{FailedSlicesDont, FrontsAreSoFar, HeadersTell, OneMoreFollows, SlicesAreTold, StopsAreOne, WholeSlicesHaveAll, WholeSlicesHaveSkips, WholeSlicesPass};
+ghost use Rattle.jb_slices.specs.SliceLaws.{FailedSlicesDont, FrontsAreSoFar, FirstIsHeader, OneMoreFollows, HeadersIdentifySlices, StopsAreOne, WholeSlicesHaveAll, WholeSlicesHaveSkips, WholeSlicesPass};
 
 /// A whole slice has the results of all its items, each once and in order, and the faults that it skipped.
 pub fn slices_have_results()
@@ -10,20 +10,21 @@ pub fn slices_have_results()
     ensures skips { WholeSlicesHaveSkips }
 {}
 
-/// One checkpoint more, or a front of them.
+/// A slice so far stays so with one more checkpoint that may follow, and so does a front of its checkpoints.
 pub fn slices_follow()
     ensures more { OneMoreFollows }
     ensures front { FrontsAreSoFar }
 {}
 
-/// Whose they are, and of which items, is in the header.
-pub fn headers_tell()
-    ensures each { HeadersTell }
-    ensures told { SlicesAreTold }
+/// The header names the job, the slice's number and the items.
+pub fn headers_identify_slices()
+    ensures each { FirstIsHeader }
+    ensures told { HeadersIdentifySlices }
     ensures own { OwnSlicesArentRefused }
 {}
 
-/// A slice is whole only where its items pass the rules, and fails only where they don't, by one fault for each partition.
+/// A slice is whole only if the items of each partition pass the rules, and fails only if those of some partition don't. A partition fails by
+/// one fault.
 pub fn slices_follow_the_rules()
     ensures whole { WholeSlicesPass }
     ensures failed { FailedSlicesDont }

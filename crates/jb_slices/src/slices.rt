@@ -4,8 +4,8 @@ ghost use Rattle.std.specs.Prelude.{ℕ, suc, ◌≡◌, ◌<◌, List, length};
 ghost use Rattle.std.specs.Bool.{MatchBool};
 ghost use Rattle.jb_slices.specs.Job.{HasSlice, IsLastSlice, Job, slice_at};
 
-/// Whether a slice of so many items is the last one of its job, which has `slice_length` items in each other slice. If it isn't, there is a
-/// next one.
+/// Whether a slice with this many items is the last one of its job. Each other slice of the job has `slice_length` items. If it isn't the last,
+/// there is a next one.
 #[must_use]
 pub fn is_last_slice(items: u64, slice_length: u64) -> bool
     ensures last { (job : Job) (all : List (List ℕ)) (number : ℕ) → job.slice_length ≡ slice_length → HasSlice job all number

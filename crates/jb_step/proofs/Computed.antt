@@ -22,7 +22,7 @@ use Rattle.jb_collect.specs.declared.calls.ReducerCall.{ReducerCall}
 use Rattle.jb_collect.specs.declared.calls.ReducerCall.TheVariants.{Begin, Before, Rollback, After}
 use Rattle.jb_collect.specs.declared.calls.PartitionStatus.TheVariants as end
 use Rattle.jb_collect.specs.ReducerCalls.{rolled_back}
-use Rattle.jb_collect.specs.Taken.{Taken, well, faulted, calls_of}
+use Rattle.jb_collect.specs.AnsweredCalls.{AnsweredCall, well, faulted, calls_of}
 use Rattle.std.specs.Prelude.{is_some}
 use Rattle.jb_step.specs.Tables.{Table, held_at}
 use Rattle.jb_step.specs.callbacks.Callbacks.{AreSome, has_fault}
@@ -31,7 +31,7 @@ use Rattle.jb_step.specs.rounds.Runs.{PlanRun, ArePlanRuns, IsPlanRun, rounds_ru
 use Rattle.jb_step.specs.preparing.Prepare.{IsBegunThen}
 use Rattle.jb_step.specs.preparing.Setup.{Setup, counts_now}
 use Rattle.jb_step.specs.Worked.{CallsOfPrepare, CallsOfOverride, CallsWithoutMemory, AfterReducer, WithoutMemory, WorkedRows, whole_seven, skipped_run, stopped_seven, plan_run, chunks, faulted_rollback, well_rollback}
-use Rattle.jb_step.specs.inside.Below.{LawsBelow}
+use Rattle.jb_step.specs.inside.LowerLaws.{LowerLaws}
 use Rattle.jb_step.proofs.plans.Planning.{least-wrapped}
 use Rattle.jb_step.proofs.plans.Steady.{row_waits}
 
@@ -68,7 +68,7 @@ found before threads plan = (plan.rounds, length plan.rounds, plan.certificate, 
 abbrev wrapped : List ℕ → (threads : ℕ) → Found
 wrapped counts threads = (slots_sets (wrapped_rounds counts threads), mcnaughton counts threads, bound_certificate counts threads, true, true, true, true)
 
-planned : LawsBelow → {s : Setup} {before : Table} {plan : PlanRun} → found before s.threads plan ≡ wrapped (counts_now s before) s.threads → IsPlanRun s before plan
+planned : LowerLaws → {s : Setup} {before : Table} {plan : PlanRun} → found before s.threads plan ≡ wrapped (counts_now s before) s.threads → IsPlanRun s before plan
 planned law {s = s} {before = before} {plan = plan} e =
     let counts = counts_now s before in
     let some = leb-true 1 s.threads (ap (λ (x : Found). x.3) e) in
@@ -80,7 +80,7 @@ planned law {s = s} {before = before} {plan = plan} e =
       run = run-all (rounds_run plan) before (ap (λ (x : Found). x.6) e);
     }
 
-single : LawsBelow → {s : Setup} {before : Table} {plan : PlanRun} → found before s.threads plan ≡ wrapped (counts_now s before) s.threads → ArePlanRuns s before (plan ∷ [])
+single : LowerLaws → {s : Setup} {before : Table} {plan : PlanRun} → found before s.threads plan ≡ wrapped (counts_now s before) s.threads → ArePlanRuns s before (plan ∷ [])
 single law e = (planned law e, inl refl, tt)
 
 -- WHAT IS NO RUN
@@ -105,10 +105,10 @@ left_open runs = elim runs.1 [ inl none ↦ cc | inr (inl whole) ↦ cc | inr (i
 
 -- WHERE THE REDUCER'S CALLS END
 
-abbrev faults_of : List (Taken ReducerCall) → List (Option ClassId)
+abbrev faults_of : List (AnsweredCall ReducerCall) → List (Option ClassId)
 faults_of taken = map (λ t. t.fault) taken
 
-begun : {calls : List ReducerCall} {taken : List (Taken ReducerCall)} → IsBegunThen calls taken → calls_of taken ≡ Begin ∷ calls
+begun : {calls : List ReducerCall} {taken : List (AnsweredCall ReducerCall)} → IsBegunThen calls taken → calls_of taken ≡ Begin ∷ calls
 begun h = ap calls_of h.begun ∙ ap (λ calls. Begin ∷ calls) h.calls_are
 
 not_unbegun : WithoutMemory well_rollback → ⊥
@@ -170,7 +170,7 @@ calls_without_memory = record {
 
 -- ALL
 
-pub worked : LawsBelow → WorkedRows
+pub worked : LowerLaws → WorkedRows
 unfolding end_of asks_repeat repeated_up_to all_repeated settling settles entry results count_of artifacts_used used_between used_at digits blocks
 worked law = (
   record { gives = (single law refl, refl); over = (inl refl, tt); events = refl },

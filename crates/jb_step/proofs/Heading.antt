@@ -5,7 +5,7 @@ use Rattle.std.proofs.lemmas.List.{take-append-drop, take_all}
 use Rattle.jb_rules.specs.declared.row.Row.{Row}
 use Rattle.jb_cert.specs.Lawful.{Pair, IsLawful}
 use Rattle.jb_chunk.specs.Laws.{OneEnd}
-use Rattle.jb_chunk.specs.Standing.{TaskState}
+use Rattle.jb_chunk.specs.TaskState.{TaskState}
 use Rattle.jb_step.specs.Alone.{AreAlone}
 use Rattle.jb_step.specs.Answers.{IsRunOfStep, StepRun, artifacts_of, table_before, tasks_after, tasks_before, tasks_by}
 use Rattle.jb_step.specs.Headline.{ArePlansOf, Headline, HeadlineHolds, IsNextBlock, IsPlanOf, NoneIsLeft, RunInOrder, UnstoppedRunsAgree}
@@ -14,7 +14,7 @@ use Rattle.jb_step.specs.rounds.PlanLaws.{IsTaskTable}
 use Rattle.jb_step.specs.rounds.Rounds.{AreRun, GoQuietly, after_round, after_rounds, attempts_in, attempts_of, breaks_in}
 use Rattle.jb_step.specs.rounds.Runs.{AreOver, ArePlanRuns, IsOver, IsPlanRun, PlanRun, rounds_of, rounds_run, table_after}
 use Rattle.jb_step.specs.preparing.Setup.{Setup, counts_now, rows_now}
-use Rattle.jb_step.specs.inside.Below.{ChunkLaws, LawsBelow}
+use Rattle.jb_step.specs.inside.LowerLaws.{ChunkLaws, LowerLaws}
 use Rattle.jb_step.proofs.run.Adding.{after-append, breaks-more, not-last, quiet-both, run-more}
 use Rattle.jb_step.proofs.table.Apart.{wait-in}
 use Rattle.jb_step.proofs.plans.ChunksInOrder.{all-chunks, block-next, next-chunk}
@@ -64,7 +64,7 @@ quietly b P (inr broke) quiet = let both : false ≡ true = sym quiet ∙ broke 
 
 -- THE RUN
 
-module _ (below : LawsBelow) (r : StepRun) where
+module _ (below : LowerLaws) (r : StepRun) where
   plan-of : (before : Table) (plan : PlanRun) (later : List PlanRun) → IsSteadyTable r.setup before → IsPlanRun r.setup before plan → (later ≡ []) ⊎ IsOver before plan → (r.snapshot.stopping ≡ false → IsOver before plan)
       → IsPlanOf r before plan later
   plan-of before plan later table one next last = record {
@@ -108,7 +108,7 @@ module _ (below : LawsBelow) (r : StepRun) where
     came_back = run.came_back ∙ ap artifacts_of (sym run.tasks);
   }
 
-pub headline_holds : LawsBelow → HeadlineHolds
+pub headline_holds : LowerLaws → HeadlineHolds
 headline_holds below r setup a = let first = begins_with_table r.setup r.artifacts setup a.fit in headline-of below r first.0 first.1 a.run
 
 pub unstopped_runs_agree : OneEnd → UnstoppedRunsAgree

@@ -1,21 +1,21 @@
--- Where the partitions of a step stand, seen from their attempts alone.
+-- Where the partitions of a step are, seen from their attempts alone.
 use Rattle.std.specs.Prelude.{List, Bool}
 use Rattle.std.specs.List.{list_all, AllByRecursion}
 use Rattle.jb_base.specs.Pairwise.{Pairwise}
 use Rattle.jb_rules.specs.States.{has_ended}
 use Rattle.jb_chunk.specs.Alone.{IsOnTheWay, IsAlone}
 use Rattle.jb_chunk.specs.Plain.{IsCalm, IsPlain}
-use Rattle.jb_chunk.specs.Standing.{TaskState, IsReady}
+use Rattle.jb_chunk.specs.TaskState.{TaskState, IsReady}
 
--- each partition stands after some of its attempts alone
+-- each partition is where some of its attempts alone lead
 abbrev pub AreOnTheWay : List TaskState → List TaskState → Type 0
 AreOnTheWay = Pairwise IsOnTheWay
 
--- each partition stands where its attempts alone end
+-- each partition is where its attempts alone end
 abbrev pub AreAlone : List TaskState → List TaskState → Type 0
 AreAlone = Pairwise IsAlone
 
--- each partition stands where its Plain run ends
+-- each partition is where its Plain run ends
 abbrev pub ArePlain : List TaskState → List TaskState → Type 0
 ArePlain = Pairwise IsPlain
 

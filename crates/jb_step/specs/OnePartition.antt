@@ -2,7 +2,7 @@
 use Rattle.std.specs.Prelude.{◌≡◌, ℕ, nat_eq, Some, List, ◌++◌, filter, map}
 use Rattle.jb_chunk.specs.Alone.{IsRunOf}
 use Rattle.jb_chunk.specs.Attempt.{AttemptEnd}
-use Rattle.jb_chunk.specs.Standing.{TaskState}
+use Rattle.jb_chunk.specs.TaskState.{TaskState}
 use Rattle.jb_collect.specs.Heard.{calls_about, heard_first, heard_in, heard_last}
 use Rattle.jb_step.specs.callbacks.Heard.{heard}
 use Rattle.jb_step.specs.rounds.Runs.{PlanRun, ArePlanRuns, all_attempts, table_after}
@@ -24,8 +24,8 @@ OthersDontCount =
     → (attempts_at p (all_attempts plans start) ≡ all_attempts plans (alone_at p start))
     × (alone_at p (table_after plans start) ≡ table_after plans (alone_at p start))
 
--- What the analyzer hears of a partition: at first that it is empty; then of each of its attempts in order, the last of
--- which may end it; at last that it is stopped, if it is left unfinished
+-- What the analyzer hears of a partition. At first: that it is empty. Then: each of its attempts in order, the last of which may end it. At
+-- last: that it is stopped, if it is left unfinished.
 abbrev pub HeardOfPartition : Type 0
 HeardOfPartition =
     (p : ℕ) (s : Setup) (start : Table) (plans : List PlanRun)

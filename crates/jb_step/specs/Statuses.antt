@@ -1,4 +1,4 @@
--- How a step stands at its end (this project's choice).
+-- The status of a step at its end (this project's choice).
 use Rattle.std.specs.Prelude.{Bool, not, ◌||◌, if◌then◌else◌, List}
 use Rattle.std.specs.List.{list_any}
 use Rattle.jb_rules.specs.declared.row.Row.{Row}
@@ -6,7 +6,7 @@ use Rattle.jb_rules.specs.States.{is_finished, is_failed}
 use Rattle.jb_collect.specs.declared.calls.Status.{Status}
 use Rattle.jb_collect.specs.declared.calls.Status.TheVariants.{Stopped, Failed, Completed}
 
--- FAILED where a partition or a callback failed; else STOPPED where a partition is unfinished; else COMPLETED
+-- FAILED if a partition or a callback failed; else STOPPED if a partition is unfinished; else COMPLETED
 abbrev pub status_of : List Row → (callback_failed : Bool) → Status
 status_of rows callback_failed =
     if callback_failed || list_any (λ row. is_failed row.state) rows then Failed

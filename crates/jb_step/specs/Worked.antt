@@ -9,7 +9,7 @@ use Rattle.jb_artifacts.specs.Meaning.{ArtifactsMeaning}
 use Rattle.jb_cert.specs.declared.certificates.Certificate.{Certificate}
 use Rattle.jb_cert.specs.declared.certificates.Certificate.TheVariants.{Longest, FullLoad}
 use Rattle.jb_cert.specs.Lawful.{Pair}
-use Rattle.jb_chunk.specs.Standing.{TaskState}
+use Rattle.jb_chunk.specs.TaskState.{TaskState}
 use Rattle.jb_chunk.specs.Worked.{class_e, sound, only, strict, rules_of, one_skip, two_bad, artifacts_from, numbers}
 use Rattle.jb_collect.specs.declared.calls.Status.{Status}
 use Rattle.jb_collect.specs.declared.calls.Status.TheVariants as status
@@ -19,7 +19,7 @@ use Rattle.jb_collect.specs.declared.calls.ReducerCall.{ReducerCall}
 use Rattle.jb_collect.specs.declared.calls.ReducerCall.TheVariants.{Begin, Before, Rollback, After}
 use Rattle.jb_collect.specs.declared.calls.PartitionStatus.TheVariants as end
 use Rattle.jb_collect.specs.ReducerCalls.{reducer_calls, rolled_back}
-use Rattle.jb_collect.specs.Taken.{Taken, well, faulted}
+use Rattle.jb_collect.specs.AnsweredCalls.{AnsweredCall, well, faulted}
 use Rattle.jb_rules.specs.declared.row.Row.{Row}
 use Rattle.jb_saved.specs.SavedRows.{SavedRows}
 use Rattle.jb_step.specs.declared.error.StepError.TheVariants as step_error
@@ -38,7 +38,7 @@ use Rattle.jb_step.specs.restarts.StepRuns.{artifacts_restarted}
 abbrev pub range : ℕ → ℕ → Range
 range lo hi = record { lo = lo; hi = hi }
 
--- a step that is begun anew on these ranges
+-- a step that begins from the start on these ranges
 abbrev pub step : RulesRecord → (item_count threads : ℕ) → List Range → Setup
 step rules item_count threads ranges = record {
   rows = fresh_rows ranges;
@@ -70,14 +70,14 @@ handed_back r = artifacts_of (tasks_at_end r)
 abbrev pub saved_of : WorkedRun → SavedRows
 saved_of r = record { step = codes "s"; rows = rows_at_last r }
 
--- the step is taken up again where a run left it, with these artifacts, or with those that were handed back
+-- the step is restarted where a run left it, with these artifacts, or with those that were handed back
 abbrev pub resumed_run : WorkedRun → List ArtifactsMeaning → List PlanRun → WorkedRun
 resumed_run r artifacts plans = run_of (record r.step { rows = opening_rows [] (Some (saved_of r)); is_fresh = false }) artifacts plans
 
 abbrev pub resumed_as_left : WorkedRun → List PlanRun → WorkedRun
 resumed_as_left r plans = resumed_run r (artifacts_restarted (tasks_at_end r)) plans
 
--- the tasks of a run, as one that took them up again left them
+-- the tasks of a run, as a run that restarted them left them
 abbrev pub left_by_both : WorkedRun → WorkedRun → List TaskState
 left_by_both first later = tasks_left (tasks_at_end first) (rows_at_last later) (handed_back later)
 
@@ -123,7 +123,7 @@ whole_seven = run_of_seven 2 (plan_run (Longest 0) two_rounds 2 ∷ [])
 abbrev pub single_seven : WorkedRun
 single_seven = run_of_seven 1 (plan_run FullLoad four_rounds 4 ∷ [])
 
--- stopped after one round, and taken up again
+-- stopped after one round, and restarted
 abbrev pub stopped_seven : WorkedRun
 stopped_seven = run_of_seven 2 (plan_run (Longest 0) two_rounds 1 ∷ [])
 
@@ -133,7 +133,7 @@ rest_plans = plan_run (Longest 0) (((0, 0) ∷ (2, 0) ∷ []) ∷ []) 1 ∷ []
 abbrev pub rest_of_seven : WorkedRun
 rest_of_seven = resumed_run stopped_seven (artifacts_with 0 sound (codes "xa" ∷ codes "xb" ∷ []) ∷ clean 5 ∷ []) rest_plans
 
--- on one thread, stopped after each round and taken up again
+-- on one thread, stopped after each round and restarted
 abbrev pub first_run : WorkedRun
 first_run = run_of_seven 1 (plan_run FullLoad four_rounds 1 ∷ [])
 
@@ -146,8 +146,8 @@ third_run = resumed_as_left second_run (plan_run FullLoad (first_chunks (1 ∷ 2
 abbrev pub fourth_run : WorkedRun
 fourth_run = resumed_as_left third_run (plan_run (Longest 2) (first_chunks (2 ∷ [])) 1 ∷ [])
 
--- Six records in two partitions; records 0 and 3 always fail, and one may be skipped: the partition that fails, and its
--- restart with no faults
+-- Six records in two partitions; records 0 and 3 always fail, and one may be skipped. This is the run whose one partition fails, and its
+-- restart with no faults.
 abbrev pub failed_six : WorkedRun
 failed_six =
     run_of (step (one_skip 1 0) 2 2 (range 0 4 ∷ range 4 6 ∷ [])) (artifacts_with 0 two_bad [] ∷ artifacts_with 4 two_bad [] ∷ [])
@@ -182,18 +182,17 @@ abbrev pub row_numbers : ℕ → ℕ → ℕ → ℕ → ℕ → ℕ → ℕ →
 row_numbers at redo retries written read write commit rollback process_skip =
     at ∷ redo ∷ retries ∷ written ∷ read ∷ write ∷ commit ∷ rollback ∷ 0 ∷ process_skip ∷ 0 ∷ 0 ∷ 0 ∷ []
 
-abbrev pub text_told : ℕ → List ℕ → AnalyzerCall
-text_told p t = call.Collected p t
+abbrev pub text_heard : ℕ → List ℕ → AnalyzerCall
+text_heard p t = call.Collected p t
 
-abbrev pub status_told : ℕ → Status → AnalyzerCall
-status_told p s = call.Status p s
+abbrev pub status_heard : ℕ → Status → AnalyzerCall
+status_heard p s = call.Status p s
 
 -- the partition's last chunk was committed: its text, the one at its end, and its status
 abbrev pub completed : ℕ → List ℕ → List AnalyzerCall
-completed p t = text_told p t ∷ text_told p (t ++ codes ":end") ∷ status_told p status.Completed ∷ []
+completed p t = text_heard p t ∷ text_heard p (t ++ codes ":end") ∷ status_heard p status.Completed ∷ []
 
--- what a run of a step gives: its notes, its rows, the analyzer's calls, the status, and the reducer's calls where no
--- callback fails
+-- what a run of a step gives: its notes, its rows, the analyzer's calls, the status, and the reducer's calls if no callback fails
 pub record Given : Type 0 where
   pub notes : List PlanNote
   pub rows : List (List ℕ)
@@ -227,7 +226,7 @@ seven_rows = row_numbers 3 0 0 3 3 3 2 0 0 ∷ row_numbers 5 3 0 2 2 2 1 0 0 ∷
 pub record SevenRecords : Type 0 where
   pub gives :
       GivesRun whole_seven (note (Longest 0) 2 2 ∷ []) seven_rows
-      (text_told 0 (codes "0:2:2") ∷ completed 1 (codes "1:5:2") ++ completed 0 (codes "0:3:3") ++ completed 2 (codes "2:7:2"))
+      (text_heard 0 (codes "0:2:2") ∷ completed 1 (codes "1:5:2") ++ completed 0 (codes "0:3:3") ++ completed 2 (codes "2:7:2"))
       status.Completed committed
   pub over : AreOver whole_seven.start whole_seven.plans
   pub events : events_of whole_seven.plans whole_seven.start ≡ 11
@@ -236,7 +235,7 @@ pub record SevenRecords : Type 0 where
 pub record SevenOnOneThread : Type 0 where
   pub gives :
       GivesRun single_seven (note FullLoad 4 4 ∷ []) seven_rows
-      (text_told 0 (codes "0:2:2") ∷ completed 0 (codes "0:3:3") ++ completed 1 (codes "1:5:2") ++ completed 2 (codes "2:7:2"))
+      (text_heard 0 (codes "0:2:2") ∷ completed 0 (codes "0:3:3") ++ completed 1 (codes "1:5:2") ++ completed 2 (codes "2:7:2"))
       status.Completed committed
   pub over : AreOver single_seven.start single_seven.plans
   pub events : events_of single_seven.plans single_seven.start ≡ 13
@@ -246,7 +245,7 @@ pub record StoppedAndRestarted : Type 0 where
   pub stopped :
       GivesRun stopped_seven (note (Longest 0) 2 1 ∷ [])
       (row_numbers 2 0 0 2 2 2 1 0 0 ∷ row_numbers 5 3 0 2 2 2 1 0 0 ∷ row_numbers 5 5 0 0 0 0 0 0 0 ∷ [])
-      (text_told 0 (codes "0:2:2") ∷ completed 1 (codes "1:5:2") ++ status_told 0 status.Stopped ∷ status_told 2 status.Stopped ∷ [])
+      (text_heard 0 (codes "0:2:2") ∷ completed 1 (codes "1:5:2") ++ status_heard 0 status.Stopped ∷ status_heard 2 status.Stopped ∷ [])
       status.Stopped undone
   pub needed : needs rest_of_seven.step.rows ≡ 0 ∷ 2 ∷ []
   pub restarted :
@@ -264,17 +263,17 @@ pub record OneRoundEach : Type 0 where
   pub first :
       GivesRun first_run (note FullLoad 4 1 ∷ [])
       (row_numbers 2 0 0 2 2 2 1 0 0 ∷ row_numbers 3 3 0 0 0 0 0 0 0 ∷ row_numbers 5 5 0 0 0 0 0 0 0 ∷ [])
-      (text_told 0 (codes "0:2:2") ∷ status_told 0 status.Stopped ∷ status_told 1 status.Stopped ∷ status_told 2 status.Stopped ∷ [])
+      (text_heard 0 (codes "0:2:2") ∷ status_heard 0 status.Stopped ∷ status_heard 1 status.Stopped ∷ status_heard 2 status.Stopped ∷ [])
       status.Stopped undone
   pub second :
       GivesRun second_run (note FullLoad 3 1 ∷ [])
       (row_numbers 3 0 0 3 3 3 2 0 0 ∷ row_numbers 3 3 0 0 0 0 0 0 0 ∷ row_numbers 5 5 0 0 0 0 0 0 0 ∷ [])
-      (completed 0 (codes "0:3:3") ++ status_told 1 status.Stopped ∷ status_told 2 status.Stopped ∷ [])
+      (completed 0 (codes "0:3:3") ++ status_heard 1 status.Stopped ∷ status_heard 2 status.Stopped ∷ [])
       status.Stopped undone
   pub third :
       GivesRun third_run (note FullLoad 2 1 ∷ [])
       (row_numbers 3 0 0 3 3 3 2 0 0 ∷ row_numbers 5 3 0 2 2 2 1 0 0 ∷ row_numbers 5 5 0 0 0 0 0 0 0 ∷ [])
-      (completed 1 (codes "1:5:2") ++ status_told 2 status.Stopped ∷ [])
+      (completed 1 (codes "1:5:2") ++ status_heard 2 status.Stopped ∷ [])
       status.Stopped undone
   pub fourth : GivesRun fourth_run (note (Longest 2) 1 1 ∷ []) seven_rows (completed 2 (codes "2:7:2")) status.Completed committed
 
@@ -283,7 +282,7 @@ pub record OneFailed : Type 0 where
   pub failed :
       GivesRun failed_six (note (Longest 0) 2 2 ∷ [])
       (row_numbers 2 0 0 1 2 1 1 1 1 ∷ row_numbers 6 4 0 2 2 2 1 0 0 ∷ [])
-      (text_told 0 (codes "0:2:1") ∷ completed 1 (codes "1:6:2") ++ status_told 0 status.Failed ∷ [])
+      (text_heard 0 (codes "0:2:1") ∷ completed 1 (codes "1:6:2") ++ status_heard 0 status.Failed ∷ [])
       status.Failed undone
   pub needed : needs rest_of_six.step.rows ≡ 0 ∷ []
   pub restarted :
@@ -294,13 +293,13 @@ pub record OneFailed : Type 0 where
 
 -- no record at all
 abbrev pub NoRecord : Type 0
-NoRecord = GivesRun empty_run [] (row_numbers 0 0 0 0 0 0 0 0 0 ∷ []) (status_told 0 status.Completed ∷ []) status.Completed committed
+NoRecord = GivesRun empty_run [] (row_numbers 0 0 0 0 0 0 0 0 0 ∷ []) (status_heard 0 status.Completed ∷ []) status.Completed committed
 
 -- a retry rolls back to single records
 pub record Retried : Type 0 where
   pub gives :
       GivesRun retried_run (note (Longest 0) 1 1 ∷ note (Longest 0) 4 4 ∷ []) (row_numbers 4 4 1 4 4 4 4 1 0 ∷ [])
-      (text_told 0 (codes "0:1:1") ∷ text_told 0 (codes "0:2:2") ∷ text_told 0 (codes "0:3:3") ∷ completed 0 (codes "0:4:4"))
+      (text_heard 0 (codes "0:1:1") ∷ text_heard 0 (codes "0:2:2") ∷ text_heard 0 (codes "0:3:3") ∷ completed 0 (codes "0:4:4"))
       status.Completed committed
   pub events : events_of retried_run.plans retried_run.start ≡ 17
 
@@ -308,7 +307,7 @@ pub record Retried : Type 0 where
 abbrev pub Skipped : Type 0
 Skipped =
     GivesRun skipped_run (note (Longest 0) 2 1 ∷ note (Longest 0) 3 3 ∷ []) (row_numbers 4 2 1 3 4 3 3 1 1 ∷ [])
-    (text_told 0 (codes "0:1:1") ∷ text_told 0 (codes "0:2:1") ∷ completed 0 (codes "0:4:3"))
+    (text_heard 0 (codes "0:1:1") ∷ text_heard 0 (codes "0:2:1") ∷ completed 0 (codes "0:4:3"))
     status.Completed committed
 
 -- WHAT IS NO RUN OF A STEP
@@ -316,7 +315,7 @@ Skipped =
 pub record Refused : Type 0 where
   -- four rounds where two are enough: one chunk in each
   pub slow : (plan : PlanRun) → length plan.rounds ≡ 4 → IsPlanRun whole_seven.step whole_seven.start plan → ⊥
-  -- a plan that goes on after a rollback
+  -- a plan that continues after a rollback
   pub kept : IsPlanRun skipped_run.step skipped_run.start (plan_run (Longest 0) (chunks (0 ∷ 1 ∷ [])) 2) → ⊥
   -- a plan that was left with a round to run, and another after it
   pub dropped : ArePlanRuns stopped_seven.step stopped_seven.start (stopped_seven.plans ++ plan_run FullLoad [] 0 ∷ []) → ⊥
@@ -324,17 +323,17 @@ pub record Refused : Type 0 where
 -- THE REDUCER'S CALLS WHERE THERE IS NO ANSWER
 
 -- the step is rolled back; the first of its calls is answered with a fault, or both are answered well
-abbrev pub faulted_rollback : List (Taken ReducerCall)
+abbrev pub faulted_rollback : List (AnsweredCall ReducerCall)
 faulted_rollback = faulted Rollback class_e ∷ well (After end.Rollback) ∷ []
 
-abbrev pub well_rollback : List (Taken ReducerCall)
+abbrev pub well_rollback : List (AnsweredCall ReducerCall)
 well_rollback = map well rolled_back
 
 -- of `prepare`, which was refused a plan of the mapper's, or found no memory
-abbrev pub AfterMapper : List (Taken ReducerCall) → Type 0
+abbrev pub AfterMapper : List (AnsweredCall ReducerCall) → Type 0
 AfterMapper taken = AreCallsAtRefusal (step_error.Mapper class_e) taken
 
-abbrev pub WithoutMemory : List (Taken ReducerCall) → Type 0
+abbrev pub WithoutMemory : List (AnsweredCall ReducerCall) → Type 0
 WithoutMemory taken = AreCallsAtRefusal step_error.Memory taken
 
 pub record CallsOfPrepare : Type 0 where
@@ -348,11 +347,11 @@ pub record CallsOfPrepare : Type 0 where
   pub not_exchanged : WithoutMemory (well Begin ∷ well (After end.Rollback) ∷ well Rollback ∷ []) → ⊥
 
 -- of `prepare`, whose reducer answered a fault
-abbrev pub AfterReducer : List (Taken ReducerCall) → Type 0
+abbrev pub AfterReducer : List (AnsweredCall ReducerCall) → Type 0
 AfterReducer taken = AreCallsAtRefusal (step_error.Reducer class_e) taken
 
 -- and which refused nothing, and discarded what was saved
-abbrev pub AfterOverride : List (Taken ReducerCall) → Type 0
+abbrev pub AfterOverride : List (AnsweredCall ReducerCall) → Type 0
 AfterOverride taken = AreCallsBefore {A = Unit {0}} true (Ok tt) taken
 
 pub record CallsOfOverride : Type 0 where
@@ -364,7 +363,7 @@ pub record CallsOfOverride : Type 0 where
   pub not_begun_alone : AfterOverride (well Begin ∷ []) → ⊥
   pub not_rolled_back_first : AfterOverride (well Rollback ∷ well Begin ∷ []) → ⊥
 
--- seven records in three partitions after a round, restarted in two partitions: the saved rows go on, or are discarded
+-- seven records in three partitions after a round, restarted in two partitions: the saved rows are resumed, or are discarded
 abbrev pub two_ranges : List Range
 two_ranges = range 0 4 ∷ range 4 7 ∷ []
 

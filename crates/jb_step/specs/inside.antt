@@ -1,4 +1,4 @@
-pub mod Below
+pub mod LowerLaws
 pub mod callbacks
 pub mod preparing
 pub mod rounds

@@ -1,6 +1,6 @@
-//! What is told of a step.
+//! The callbacks of a step.
 //!
-//! - `tell`: what the analyzer is told of each round; `reduce`: what the reducer is told of the step, and how it stands.
+//! - `tell`: the analyzer's calls, for each round; `reduce`: the reducer's calls, and the step's status.
 //! - `finish`: the rows at the end, compared with the repository's.
 
 pub(crate) mod finish;

@@ -10,7 +10,7 @@ use jb_saved::{SavedError, SavedPlace};
 use std::alloc::{AllocError, AllocFailed};
 use thiserror::Error;
 
-/// Why a step has no answer. The first error that holds is answered:
+/// Why a step has no answer. The first error in this order that holds is answered:
 ///
 /// - `prepare`: `Reducer` (its `begin`); `Mapper`; `Plan`; `Saved` (`Step`, then `Records`); `Reducer` (its `rollback`, under `override`).
 /// - `run_step`: `WrongArtifacts`; `Repository` (the desk's rows, as the step finds them); then the first of `Workers`, `Repository`
@@ -26,13 +26,13 @@ pub enum StepError {
     /// The mapper answered a fault of this class.
     #[error("the mapper failed with a fault of class {}", .0.number())]
     Mapper(ClassId),
-    /// The reducer's `begin` did.
+    /// The reducer's `begin` or `rollback` answered a fault of this class.
     #[error("the reducer's begin failed with a fault of class {}", .0.number())]
     Reducer(ClassId),
     /// The artifacts aren't those that the unfinished partitions need.
     #[error("the artifacts aren't those that the unfinished partitions need")]
     WrongArtifacts,
-    /// The desk's row of this partition isn't the step's own, or the desk was used by another, or it refused an event.
+    /// The desk's row of this partition isn't the step's own. Or, with the number of rows: the desk was used by another, or it refused an event.
     #[error("the repository's row of partition {0} isn't the step's own, or it refused an event")]
     Repository(u32),
     /// A worker could not be started.
@@ -41,7 +41,7 @@ pub enum StepError {
     /// The saved rows are refused.
     #[error("the saved rows are refused: {0}")]
     Saved(SavedPlace),
-    /// There was no memory.
+    /// Out of memory.
     #[error("no memory")]
     Memory,
 }

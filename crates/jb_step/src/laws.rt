@@ -3,9 +3,9 @@
 ghost use Rattle.jb_step.specs.rounds.PlanLaws.{BeginsWithRows, BeginsWithTable, BeginsWithTasks, ChunksAreBlocks, EndsWhole, NextCanRun, PartitionsStay, RunsAll, RunsInOrder};
 ghost use Rattle.jb_step.specs.Headline.{HeadlineHolds, UnstoppedRunsAgree};
 ghost use Rattle.jb_step.specs.Laws.{StepsAreOnTheWay, StepsEndAlone, AloneIsOnePlace, CalmStepsArePlain};
-ghost use Rattle.jb_step.specs.inside.Below.{LawsBelow};
+ghost use Rattle.jb_step.specs.inside.LowerLaws.{LowerLaws};
 ghost use Rattle.jb_step.specs.OnePartition.{AttemptsAreAlone, HeardOfPartition, OthersDontCount};
-ghost use Rattle.jb_step.specs.restarts.Restarts.{OverridesBeginAnew, RestartsAreOnTheWay, RestartsEndAlone, RestartsEndAsUnstopped, RestartsFit};
+ghost use Rattle.jb_step.specs.restarts.Restarts.{OverridesStartFresh, RestartsAreOnTheWay, RestartsEndAlone, RestartsEndAsUnstopped, RestartsFit};
 
 use jb_cert::{bound_is_least, wrap_around_is_least};
 use jb_chunk::{
@@ -15,15 +15,15 @@ use jb_collect::{calls_end_at_a_fault, partitions_are_heard_apart};
 use jb_plan::chunks_follow_one_another;
 use jb_saved::answers_are_computed;
 
-/// The headline: what every run of a step did, by what `run_step` answers alone.
+/// The headline: what every run of a step did. It requires only that `run_step` answered.
 ///
-/// Each of its plans has exactly the chunks not yet committed, in the fewest rounds of all lawful plans, with a certificate of
-/// it, and runs each partition's in order; and unstopped it leaves each partition where its attempts alone end.
+/// Each of its plans has exactly the chunks not yet committed, and runs each partition's in order. It has the fewest rounds of all lawful
+/// plans, with a certificate of it. Unstopped, the step leaves each partition where its attempts alone end.
 pub fn headline()
     ensures holds { HeadlineHolds }
     ensures agree { UnstoppedRunsAgree }
 {
-    laws_below();
+    lower_laws();
     runs_end_alike();
 }
 
@@ -47,7 +47,7 @@ pub fn others_dont_count()
     partitions_are_heard_apart();
 }
 
-/// A plan can be run to its end, while no round has a rollback or a failure.
+/// A plan can be run to its end, as long as no round has a rollback or a failure.
 pub fn plans_can_be_run()
     ensures next { NextCanRun }
     ensures order { RunsInOrder }
@@ -59,14 +59,14 @@ pub fn plans_can_be_run()
     ensures rows { BeginsWithRows }
     ensures stay { PartitionsStay }
 {
-    laws_below();
+    lower_laws();
 }
 
-/// A step that is stopped any number of times, and restarted each time through its saved text, ends, once nothing stops it,
-/// as a step that was never stopped, whatever the numbers of threads of its runs were.
+/// A step may be stopped any number of times, and restarted each time through its saved text. Once nothing stops it, it ends as a step that
+/// was never stopped, for any numbers of threads of its runs.
 ///
-/// The restarts are told call by call: what `run_step` says of its answer, then what `Saved::of`, `saved_text`, `read_saved`
-/// and `prepare` say of theirs, and the artifacts that `run_step` takes. No partition may have failed at a stop.
+/// The restarts are described call by call: what `run_step` says of its answer, then what `Saved::of`, `saved_text`, `read_saved` and
+/// `prepare` say of theirs, and the artifacts that `run_step` takes. No partition may have failed at a stop.
 pub fn restarts_go_on()
     ensures fit { RestartsFit }
     ensures on_the_way { RestartsAreOnTheWay }
@@ -80,15 +80,15 @@ pub fn restarts_go_on()
     runs_end_alike();
 }
 
-/// A restart whose plan overrides what was saved is prepared as where nothing was saved, but for the reducer's `rollback`: it
-/// begins a chain of restarts of its own.
-pub fn overrides_begin_anew()
-    ensures { OverridesBeginAnew }
+/// A restart whose plan overrides what was saved is prepared as if nothing was saved, but for the reducer's `rollback`. It begins a new
+/// chain of restarts.
+pub fn overrides_start_fresh()
+    ensures { OverridesStartFresh }
 {}
 
 /// What the crates below say of chunks, of plans, and of calls that may be answered with a fault.
-pub(crate) fn laws_below()
-    ensures { LawsBelow }
+pub(crate) fn lower_laws()
+    ensures { LowerLaws }
 {
     chunks_follow_one_another();
     attempts_are_steps();

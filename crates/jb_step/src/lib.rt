@@ -1,8 +1,8 @@
 //! A partitioned step over threads: its partitions move between threads at checkpoints, in rounds of least plans.
 //!
-//! - `preparing`: the plan of a step's partitions, the rows that it begins with, new ones or those of a stopped run, and their tasks.
+//! - `preparing`: the plan of a step's partitions, their tasks, and the rows that it begins with: new ones or those of a stopped run.
 //! - `step`: the step from its artifacts to its end; `pooled`: the same over one pool of workers for all its rounds.
-//! - `rounds`: the plans, one after another, and their rounds. `callbacks`: what the analyzer and the reducer are told.
+//! - `rounds`: the plans, one after another, and their rounds. `callbacks`: the calls of the analyzer and the reducer.
 //! - `saved`: the rows of a stopped step, their text, and reading it; `error`: why a step has no answer.
 //! - `laws`, `worked`: what holds of every run of a step and of its restarts, and its definitions computed on whole steps.
 #![tactic(auto)]
@@ -21,7 +21,7 @@ pub use error::StepError;
 pub use jb_cert::PlanNote;
 pub use jb_saved::SavedPlace;
 pub use laws::{
-    headline, others_dont_count, overrides_begin_anew, partitions_run_alone, plans_can_be_run,
+    headline, others_dont_count, overrides_start_fresh, partitions_run_alone, plans_can_be_run,
     restarts_go_on,
 };
 pub use pooled::run_pooled_step;

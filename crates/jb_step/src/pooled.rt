@@ -1,7 +1,7 @@
 //! A step over one pool of workers for all its rounds, with the analyzer and the reducer that keep the list of their calls.
 
 ghost use Rattle.std.specs.Prelude.{◌≡◌, ◌⊎◌, IfOk, IfErr, OnOk, map};
-ghost use Rattle.jb_collect.specs.Taken.{Grew, since, well};
+ghost use Rattle.jb_collect.specs.AnsweredCalls.{Grew, since, well};
 ghost use Rattle.jb_step.specs.Answers.{given_back, AreCallsAfter, AreCallsUndone, AreLeftOnTheWay, IsRunError, IsRunOfStep, IsStatus};
 ghost use Rattle.jb_step.specs.Headline.{Headline};
 ghost use Rattle.jb_step.specs.preparing.Prepare.{DoFit};
@@ -21,7 +21,7 @@ use std::sync::ledger::Ledger;
 use std::thread;
 use std::thread::{Scope, Threads};
 
-// The step in a scope of threads: the pool is started, runs it, and is ended. Without memory for a pool it goes on without one.
+// Runs the step in a scope of threads: starts the pool, runs the step over it, and ends it. Without memory for a pool, the step runs without one.
 fn run_in<
     's,
     E,
@@ -93,8 +93,7 @@ fn run_in<
     end
 }
 
-/// As `run_step`, over one pool of workers for all rounds: it starts them once, and joins them wherever it ends. The analyzer and the
-/// reducer come back.
+/// As `run_step`, over one pool of workers for all rounds: it starts them once, and joins them at every end. The analyzer and the reducer come back.
 ///
 /// # Errors
 /// Those of `run_step`.

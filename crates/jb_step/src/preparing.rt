@@ -3,7 +3,7 @@
 ghost use Rattle.std.specs.Prelude.{◌≡◌, ◌≤◌, ◌++◌, ◌∷◌, [], true, IfOk, IfErr, OnOk};
 ghost use Rattle.jb_base.specs.Limits.{max_records};
 ghost use Rattle.jb_collect.specs.declared.calls.ReducerCall.TheVariants as act;
-ghost use Rattle.jb_collect.specs.Taken.{Grew, since, well};
+ghost use Rattle.jb_collect.specs.AnsweredCalls.{Grew, since, well};
 ghost use Rattle.jb_step.specs.declared.error.StepError.TheVariants.{Memory};
 ghost use Rattle.jb_step.specs.preparing.Prepare.{AreCallsBefore, IsOverridden, IsPreparation, IsPrepareRefusal, overrides_by};
 ghost use Rattle.jb_step.specs.preparing.Setup.{IsSetup, fresh_rows, saved_faults};
@@ -24,18 +24,20 @@ use jb_plan::{Checked, checked};
 use jb_saved::SavedPlace;
 use std::alloc::Global;
 
-/// The reducer's `begin`, the mapper, its plan, and the rows that a stopped run of the step saved, in this order.
+/// Calls the reducer's `begin` and the mapper, and checks its plan and the rows that a stopped run of the step saved, in this order.
 ///
-/// Without saved rows the partitions begin anew on the plan's ranges. With saved rows the step goes on from them: of the plan
-/// only the thread number counts; a finished partition isn't needed any more, and a failed one goes on at its checkpoint. Where
-/// the plan replaces the partitions (`override`), the saved rows are discarded: they are tested for their step alone, the
-/// partitions begin anew on the plan's ranges, and the reducer's `rollback` is called, the last of all.
+/// Without saved rows the partitions begin from the start on the plan's ranges. With saved rows the step resumes from them. Then only the
+/// plan's thread number counts. A finished partition isn't needed any more, and a failed one resumes at its checkpoint.
+///
+/// If the plan replaces the partitions (`override`), the saved rows are discarded, and only their step is checked. The partitions begin
+/// from the start on the plan's ranges, and the reducer's `rollback` is called, the last of all.
 ///
 /// # Errors
-/// `Reducer` and `Mapper` with the class of their fault, `Plan` with the first fault of the mapper's plan, `Saved` with the
-/// first of `Step`, where the rows are another step's, and `Records`, where one from which the step would go on ends past the
-/// last record; and `Memory`. Where `begin` succeeded, the reducer is rolled back first, but not for a second time where the
-/// rollback of discarded results failed; where it finds no memory for that, the error is `Memory`.
+/// `Reducer` and `Mapper` with the class of their fault, and `Plan` with the first fault of the mapper's plan. `Saved` with the first of
+/// `Step`, if the rows are another step's, and `Records`, if a row from which the step would resume ends past the last record. `Memory`.
+///
+/// If `begin` succeeded, the reducer is rolled back before the error is answered. It isn't rolled back a second time if the rollback of
+/// discarded results failed. If it is out of memory for the rollback, the error is `Memory`.
 pub fn prepare(
     alloc: Global,
     step: &Step,
@@ -60,7 +62,7 @@ pub fn prepare(
     }
 }
 
-// The same, once the reducer has begun.
+// The same, after the reducer's `begin`.
 fn prepare_begun(
     alloc: Global,
     step: &Step,
@@ -93,7 +95,7 @@ fn prepare_begun(
     }
 }
 
-// Rolls the reducer back for what is discarded. Where that fails, the step ends: `after` is called, and no second `rollback`.
+// Rolls the reducer back for what is discarded. If that fails, the step ends: `after` is called, and no second `rollback`.
 fn discard(prepared: Prepared, reducer: &mut dyn Reducer) -> Result<Prepared, StepError>
     ensures same { IfOk result (λ p. p ≡ prepared) }
     ensures discarded { OnOk result (reduced reducer.new ≡ reduced reducer.old ++ well act.Rollback ∷ []) }
@@ -168,7 +170,7 @@ fn opened(
     }
 }
 
-// All partitions begin anew on the plan's ranges. The only error is want of memory.
+// All partitions begin from the start on the plan's ranges. The only error is `Memory`.
 fn fresh(alloc: Global, plan: &Checked, step: &Step) -> Result<Prepared, StepError>
     ensures value { IfOk result (λ prepared. prepared ≡ setup_of_rows (fresh_rows plan.now.ranges) plan.now step.now true) }
     ensures setup { IfOk result (λ prepared. IsSetup prepared) }

@@ -1,4 +1,4 @@
-//! Saved rows, as a step leaves them and goes on from them.
+//! Saved rows, as a step leaves them and resumes from them.
 
 ghost use Rattle.std.specs.Prelude.{◌≡◌, Some, MatchResult, IfOk, string_bytes};
 ghost use Rattle.serde_json.specs.Written.{compact_text};
@@ -87,10 +87,10 @@ impl From<SavedRows> for Saved {
     }
 }
 
-/// The saved rows that a text stands for.
+/// The saved rows that a text holds.
 ///
 /// # Errors
-/// `Saved` with `NotJson`, where the text has no JSON tree, else the first fault of its tree (`SavedRows::of_value`). And `Memory`.
+/// `Saved` with `NotJson` if the text has no JSON tree, else with the first fault of its tree (`SavedRows::of_value`). And `Memory`.
 pub fn read_saved(alloc: Global, bytes: &[u8]) -> Result<Saved, StepError>
     ensures { AnswersSaved result (answer_of (tree_of bytes.now)) }
 {

@@ -5,7 +5,7 @@ ghost use Rattle.jb_step.specs.inside.table.Places.{table_in};
 ghost use Rattle.jb_step.specs.Tables.{held_in};
 ghost use Rattle.jb_step.specs.Answers.{artifacts_of, given_back, AreCallsAfter, AreCallsUndone, AreLeftOnTheWay, IsRunError, IsRunOfStep, IsStatus};
 ghost use Rattle.jb_step.specs.preparing.Prepare.{DoFit};
-ghost use Rattle.jb_collect.specs.Taken.{Grew, since};
+ghost use Rattle.jb_collect.specs.AnsweredCalls.{Grew, since};
 ghost use Rattle.jb_step.specs.callbacks.Callbacks.{has_fault};
 ghost use Rattle.jb_step.specs.Headline.{Headline};
 ghost use Rattle.jb_step.specs.preparing.Setup.{first_tasks};
@@ -15,10 +15,10 @@ ghost use Rattle.jb_step.specs.declared.error.StepError.TheVariants.{WrongArtifa
 use crate::callbacks::reduce::{end_step, status_now, undone};
 use crate::callbacks::tell::{tell_first, tell_last};
 use crate::error::StepError;
-use crate::laws::laws_below;
+use crate::laws::lower_laws;
 use crate::preparing::prepared::Prepared;
 use crate::preparing::start::start_all;
-use crate::rounds::error::RunError;
+use crate::rounds::error::StepRunError;
 use crate::rounds::ran::Ran;
 use crate::rounds::runner::{RoundRunner, StepGate, StepLedger, StepTask, StepThreads};
 use jb_artifacts::Meaning;
@@ -35,7 +35,7 @@ use std::thread::Threads;
 /// How a step ended, with the artifacts of the partitions that it ran.
 #[derive(Drop)]
 pub struct StepEnd<A> {
-    /// How the step stands.
+    /// The step's status.
     pub status: Status,
     /// The repository's rows and numbers.
     pub snapshot: Snapshot,
@@ -49,8 +49,8 @@ pub struct StepEnd<A> {
 fn give_back<T: PartitionTask>(
     alloc: Global,
     held: Vec<Option<T>>,
-) -> Result<Vec<(u32, T::Artifacts)>, RunError>
-    ensures { IfOk result (λ left. given_back T.Artifacts.meaning left.items ≡ artifacts_of (held_in (table_in T.standing held.items))) }
+) -> Result<Vec<(u32, T::Artifacts)>, StepRunError>
+    ensures { IfOk result (λ left. given_back T.Artifacts.meaning left.items ≡ artifacts_of (held_in (table_in T.task_state held.items))) }
 {
     let mut left = Vec::new(alloc);
     for place in held {
@@ -59,12 +59,12 @@ fn give_back<T: PartitionTask>(
     Ok(left)
 }
 
-// Adds the artifacts of the task that stands in the place, if one does.
+// Adds the artifacts of the task in this place, if it has one.
 fn give_one<T: PartitionTask>(
     left: &mut Vec<(u32, T::Artifacts)>,
     place: Option<T>,
-) -> Result<(), RunError>
-    ensures { OnOk result (given_back T.Artifacts.meaning left.new.items ≡ given_back T.Artifacts.meaning left.old.items ++ artifacts_of (held_in (table_in T.standing (place ∷ [])))) }
+) -> Result<(), StepRunError>
+    ensures { OnOk result (given_back T.Artifacts.meaning left.new.items ≡ given_back T.Artifacts.meaning left.old.items ++ artifacts_of (held_in (table_in T.task_state (place ∷ [])))) }
 {
     if let Some(task) = place {
         let partition = task.partition();
@@ -88,16 +88,16 @@ fn are_numbers<T: PartitionTask>(snapshot: &Snapshot, ran: &Ran<T>) -> bool
 
 impl<L: StepLedger, G: StepGate, R: StepThreads> RoundRunner<'_, L, G, R> {
     // The desk has the prepared rows, and no event yet.
-    fn is_new<T: StepTask>(&self, alloc: Global, prepared: &Prepared) -> Result<(), RunError> {
+    fn is_new<T: StepTask>(&self, alloc: Global, prepared: &Prepared) -> Result<(), StepRunError> {
         let none: Vec<Option<T>> = Vec::new(alloc);
         let snapshot = self.rows_shown(prepared, none.as_slice())?;
         if snapshot.events != 0 {
-            return Err(RunError::Desk);
+            return Err(StepRunError::Desk);
         }
         Ok(())
     }
 
-    // The rounds of a step whose artifacts fit, and how it stands before the reducer is told.
+    // The rounds of a step whose artifacts fit, and its status before the reducer's last calls.
     fn run_tasks<T: StepTask>(
         &self,
         pool: &mut Pool<T, L>,
@@ -106,7 +106,7 @@ impl<L: StepLedger, G: StepGate, R: StepThreads> RoundRunner<'_, L, G, R> {
         artifacts: Vec<T::Artifacts>,
         analyzer: &mut dyn Analyzer,
         round_limit: Option<u64>,
-    ) -> Result<StepEnd<T::Artifacts>, RunError>
+    ) -> Result<StepEnd<T::Artifacts>, StepRunError>
         requires { DoFit prepared.now (map T.Artifacts.meaning artifacts.items) }
         ensures run { IfOk result (λ end. IsRunOfStep (record {
           setup = prepared.now;
@@ -133,7 +133,7 @@ impl<L: StepLedger, G: StepGate, R: StepThreads> RoundRunner<'_, L, G, R> {
         ensures status { IfOk result (λ end. end.status ≡ status_of end.snapshot.rows.items (has_fault (since (analyzed analyzer.old) (analyzed analyzer.new)))) }
         ensures grew { Grew (analyzed analyzer.old) (analyzed analyzer.new) }
     {
-        laws_below();
+        lower_laws();
         self.is_new::<T>(alloc, prepared)?;
         let tasks = start_all::<T>(alloc, prepared, artifacts)?;
         let fault = tell_first(prepared, analyzer)?;
@@ -141,7 +141,7 @@ impl<L: StepLedger, G: StepGate, R: StepThreads> RoundRunner<'_, L, G, R> {
         ran.fault = tell_last(ran.held.as_slice(), ran.fault, analyzer)?;
         let snapshot = self.rows_shown(prepared, ran.held.as_slice())?;
         if !are_numbers(&snapshot, &ran) {
-            return Err(RunError::Desk);
+            return Err(StepRunError::Desk);
         }
         let status = status_now(snapshot.rows.as_slice(), ran.fault.is_some());
         let artifacts = give_back(alloc, ran.held)?;
@@ -158,10 +158,14 @@ impl<L: StepLedger, G: StepGate, R: StepThreads> RoundRunner<'_, L, G, R> {
 /// the step's own and new. `round_limit` is the greatest number of rounds.
 ///
 /// # Errors
-/// `WrongArtifacts` where `Prepared::fits` is false, which is looked at first. `Repository(p)` where the desk's row `p` isn't
-/// the step's own, at the start or after the last round, or, with the number of rows, where the desk was used by another or
-/// refused an event. `Workers`, where a worker could not be started. `Memory`. The reducer was rolled back then, as far as it
-/// found memory for it, unless `after(Commit)` was the call that found none; and the artifacts are dropped.
+/// - `WrongArtifacts` if `Prepared::fits` is false, which is checked first.
+/// - `Repository(p)` if the desk's row `p` isn't the step's own, at the start or after the last round. With the number of rows: the desk
+///   was used by another, or it refused an event.
+/// - `Workers` if a worker could not be started.
+/// - `Memory`.
+///
+/// The reducer is rolled back before an error is answered, as far as it has memory for it. It isn't rolled back if `after(Commit)` was the
+/// call that was out of memory. The artifacts are dropped.
 pub fn run_step<
     T: PartitionTask + Send + 'static,
     L: Ledger + Send + Sync + 'static,
@@ -189,8 +193,8 @@ pub fn run_step<
       left = given_back T.Artifacts.meaning end.artifacts.items;
     })) }
 
-    // The headline: each plan has exactly the chunks not yet committed, each partition's in order, in the fewest rounds of all lawful
-    // plans, with a certificate of it; and unstopped the step has what its partitions have that run alone.
+    // The headline: each plan has exactly the chunks not yet committed, each partition's in order. It has the fewest rounds of all lawful
+    // plans, with a certificate of it. Unstopped, the step has what its partitions have if they run alone.
     ensures headline { IfOk result (λ end. Headline (record {
       setup = prepared;
       artifacts = map T.Artifacts.meaning artifacts.items;
@@ -202,11 +206,11 @@ pub fn run_step<
       left = given_back T.Artifacts.meaning end.artifacts.items;
     })) }
 
-    // Stopped, each partition stands on the way to where its attempts alone end.
+    // Stopped, each partition is on the way to where its attempts alone end.
     ensures on_the_way { IfOk result (λ end.
         AreLeftOnTheWay (first_tasks prepared (map T.Artifacts.meaning artifacts.items)) end.snapshot.rows.items (given_back T.Artifacts.meaning end.artifacts.items)) }
 
-    // How the step stands, and what the reducer was called with.
+    // The step's status, and the reducer's calls.
     ensures status { IfOk result (λ end. IsStatus end.snapshot (since (analyzed analyzer.old) (analyzed analyzer.new)) (since (reduced reducer.old) (reduced reducer.new)) end.status) }
     ensures reducer { IfOk result (λ end. AreCallsAfter end.snapshot (since (analyzed analyzer.old) (analyzed analyzer.new)) (since (reduced reducer.old) (reduced reducer.new))) }
     ensures undone { IfErr result (λ e. AreCallsUndone e (since (reduced reducer.old) (reduced reducer.new))) }
@@ -236,9 +240,9 @@ pub fn run_step<
     end
 }
 
-/// As `run_step`, but the pool's workers do the chunks of a round, where it has one for each chunk but one; a round of more chunks
-/// starts threads of its own. The pool was started over the same desk, by `jb_workers::start_pool` in a scope of threads of the
-/// caller's, who ends it there: `run_pooled_step` is such a caller.
+/// As `run_step`, but the pool's workers do the chunks of a round, if it has one for each chunk but one. A round of more chunks starts its
+/// own threads. The pool was started over the same desk, by `jb_workers::start_pool` in a scope of the caller's threads. The caller ends it
+/// there, as `run_pooled_step` does.
 ///
 /// # Errors
 /// Those of `run_step`.
@@ -270,8 +274,8 @@ pub fn run_step_by<
       left = given_back T.Artifacts.meaning end.artifacts.items;
     })) }
 
-    // The headline: each plan has exactly the chunks not yet committed, each partition's in order, in the fewest rounds of all lawful
-    // plans, with a certificate of it; and unstopped the step has what its partitions have that run alone.
+    // The headline: each plan has exactly the chunks not yet committed, each partition's in order. It has the fewest rounds of all lawful
+    // plans, with a certificate of it. Unstopped, the step has what its partitions have if they run alone.
     ensures headline { IfOk result (λ end. Headline (record {
       setup = prepared;
       artifacts = map T.Artifacts.meaning artifacts.items;
@@ -283,11 +287,11 @@ pub fn run_step_by<
       left = given_back T.Artifacts.meaning end.artifacts.items;
     })) }
 
-    // Stopped, each partition stands on the way to where its attempts alone end.
+    // Stopped, each partition is on the way to where its attempts alone end.
     ensures on_the_way { IfOk result (λ end.
         AreLeftOnTheWay (first_tasks prepared (map T.Artifacts.meaning artifacts.items)) end.snapshot.rows.items (given_back T.Artifacts.meaning end.artifacts.items)) }
 
-    // How the step stands, and what the reducer was called with.
+    // The step's status, and the reducer's calls.
     ensures status { IfOk result (λ end. IsStatus end.snapshot (since (analyzed analyzer.old) (analyzed analyzer.new)) (since (reduced reducer.old) (reduced reducer.new)) end.status) }
     ensures reducer { IfOk result (λ end. AreCallsAfter end.snapshot (since (analyzed analyzer.old) (analyzed analyzer.new)) (since (reduced reducer.old) (reduced reducer.new))) }
     ensures undone { IfErr result (λ e. AreCallsUndone e (since (reduced reducer.old) (reduced reducer.new))) }

@@ -2,11 +2,11 @@
 
 ghost use Rattle.jb_step.specs.Worked.{WorkedRows};
 
-use crate::laws::laws_below;
+use crate::laws::lower_laws;
 
 /// What the definitions give for whole steps.
 pub fn worked_rows()
     ensures { WorkedRows }
 {
-    laws_below();
+    lower_laws();
 }

@@ -45,7 +45,7 @@ fn round(alloc: Global, partitions: u32) -> Option<Vec<Done<OneRecordTask>>> {
     Some(dones)
 }
 
-/// The calls, each with a blank behind it.
+/// The calls, each followed by a blank.
 pub(crate) fn line_of(alloc: Global, calls: &[AnalyzerCall]) -> Result<Vec<u8>, AllocError> {
     let mut line = Vec::new(alloc);
     for call in calls {
@@ -73,7 +73,7 @@ fn is_told_up_to(alloc: Global, dones: &[Done<OneRecordTask>], number: u64) -> b
         && analyzer.calls().len() as u64 == number.saturating_add(1)
 }
 
-/// A round of two partitions, told to analyzers that fail at each of its calls, and at none.
+/// A round of two partitions, reported to analyzers that fail at each of its calls, and at none.
 #[test]
 fn a_round_is_delivered(rt: HostRuntime) -> Result<(), Fail> {
     worked_rows();

@@ -1,6 +1,6 @@
-//! Lines of words by which the tests tell what is run, and lines that tell what comes of it.
+//! Lines that say what the tests run, and lines that say what comes of it.
 //!
-//! A test is a text: each line that begins with `> ` tells a run, by words and by NAME=VALUE, and behind it stands what comes of it.
+//! A test is a text. Each line that begins with `> ` describes a run, by flags and by NAME=VALUE. What comes of the run follows it.
 
 use jb_base::Rules;
 use jb_rules::Row;
@@ -8,7 +8,7 @@ use std::alloc::{AllocError, Global};
 use std::process::Abort;
 use std::test::*;
 
-/// What stands behind the name.
+/// The value that follows the name.
 pub(crate) fn value<'a>(line: &'a str, name: &str) -> Option<&'a str> {
     for word in line.split_whitespace() {
         if let Some((own, value)) = word.split_once('=') {
@@ -20,7 +20,7 @@ pub(crate) fn value<'a>(line: &'a str, name: &str) -> Option<&'a str> {
     None
 }
 
-/// The number behind the name.
+/// The number that follows the name.
 pub(crate) fn number(line: &str, name: &str) -> Option<u64> {
     value(line, name)?.parse::<u64>().ok()
 }

@@ -55,14 +55,18 @@ impl FirstTries for Late {
 
 /// Steps of four records in two partitions on two threads, and what comes of them.
 ///
-/// In `records` each stands before a dot. Of the step, its item count, the sets of classes that are skipped, retried, and retried in place,
-/// and whether one fault alone is skipped; and the greatest number of rounds. Behind it stand, in one run, in stretches of one round, and in
-/// stretches of which the later ones go on from what was kept of the first: the status, the number of
-/// skipped records, the results, each with a bar behind it, and the faults: the records that were skipped, each as NUMBER/CLASS, and the partitions
-/// that failed, each as PARTITION:NUMBER/CLASS; and the records by whose refusals partitions fail, each as !NUMBER/CLASS; or why there is
-/// none. A stretch that fails is the last one.
+/// A line's `records` has each record followed by a dot. The rest of the line is the item count, the sets of classes that are skipped,
+/// retried, and retried in place, whether only one fault is skipped, and the greatest number of rounds.
 ///
-/// A record that is refused, and a try that fails, each under several rules, and both in one chunk.
+/// What comes of the step follows three times: of one run; of intervals of one round; and of such intervals, of which the later ones resume
+/// from what was saved of the first. An interval that fails is the last one. Each answer is the error, or this:
+/// - The status and the number of skipped records.
+/// - The results, each followed by a bar.
+/// - The records that were skipped, each as NUMBER/CLASS.
+/// - The partitions that failed, each as PARTITION:NUMBER/CLASS.
+/// - The records by whose refusals partitions fail, each as !NUMBER/CLASS.
+///
+/// The lines have a record that is refused, and a try that fails, each under several rules, and both in one chunk.
 const STEPS: &str = "> records=a.b.c.d. items=1
 Completed 0 a|b|c|d|
 Completed 0 a|b|c|d|
@@ -117,9 +121,9 @@ SkippedTry
 SkippedTry
 ";
 
-/// Puts what is new of each partition behind what was told of it.
-fn grow(told: &mut Vec<PackedList>, news: Vec<PackedList>) -> Result<(), AllocError> {
-    for (partition, list) in news.into_iter().enumerate() {
+/// Adds what is new of each partition to what was reported of it.
+fn grow(told: &mut Vec<PackedList>, new_results: Vec<PackedList>) -> Result<(), AllocError> {
+    for (partition, list) in new_results.into_iter().enumerate() {
         match told.get_mut(partition) {
             Some(own) => own.append(&list)?,
             None => told.push(list)?,
@@ -128,32 +132,32 @@ fn grow(told: &mut Vec<PackedList>, news: Vec<PackedList>) -> Result<(), AllocEr
     Ok(())
 }
 
-/// Runs the step in stretches of one round, so many at most, while it is only stopped: in memory, or from the second one on behind
-/// what was kept of the first. Answers the results of the run, or those that were told.
-fn in_stretches<F: StepFunction + Drop + 'static, R: Threads + Wait + Sync>(
+/// Runs the step in intervals of one round, so many at most, while it is only stopped. The later intervals run in memory, or resume from
+/// what was saved of the first. Answers the results of the run, or those that were reported.
+fn in_intervals<F: StepFunction + Drop + 'static, R: Threads + Wait + Sync>(
     rt: &R,
     alloc: Global,
     step: &RecordsStep,
     function: &Arc<F, Global>,
     records: &PackedList,
-    stretches: u64,
+    intervals: u64,
     is_kept: bool,
 ) -> Result<RecordsEnd, RecordsStepError> {
     let run = RecordsRun::begin(alloc, step, function, records)?;
-    let (mut run, mut last) = run.go_on(rt, alloc, Some(1))?;
+    let (mut run, mut last) = run.run_interval(rt, alloc, Some(1))?;
     if is_kept && last.status == Status::Stopped {
         let (saved, results) = (last.saved.as_bytes(), run.into_results());
-        run = RecordsRun::begin_behind(alloc, step, function, records, saved, results)?;
+        run = RecordsRun::resume(alloc, step, function, records, saved, results)?;
     }
     let mut told = Vec::new(alloc);
-    for _ in 1..stretches {
+    for _ in 1..intervals {
         if last.status != Status::Stopped {
             break;
         }
-        let (next, stretch) = run.go_on(rt, alloc, Some(1))?;
+        let (next, interval) = run.run_interval(rt, alloc, Some(1))?;
         grow(&mut told, last.results)?;
         run = next;
-        last = stretch;
+        last = interval;
     }
     let failures = run.failures(alloc, &**function, records, &last)?;
     grow(&mut told, last.results)?;
@@ -165,7 +169,7 @@ fn in_stretches<F: StepFunction + Drop + 'static, R: Threads + Wait + Sync>(
     })
 }
 
-/// Adds the results, each with a bar behind it.
+/// Adds the results, each followed by a bar.
 fn add_results(text: &mut String, alloc: Global, end: &RecordsEnd) -> Result<(), AllocError> {
     let all = end.all_results(alloc)?;
     for index in 0..all.len() {
@@ -270,8 +274,8 @@ fn records_of(alloc: Global, line: &str) -> Result<PackedList, AllocError> {
     Ok(records.into_list())
 }
 
-/// Adds what comes of the line's step in stretches, in memory, or behind what was kept of the first.
-fn add_stretches<R: Threads + Wait + Sync>(
+/// Adds what comes of the line's step in intervals: in memory, or resumed from what was saved of the first.
+fn add_intervals<R: Threads + Wait + Sync>(
     text: &mut String,
     rt: &R,
     alloc: Global,
@@ -281,8 +285,8 @@ fn add_stretches<R: Threads + Wait + Sync>(
     is_kept: bool,
 ) -> Result<(), AllocError> {
     let function = Arc::new(alloc, new_letters())?;
-    let stretches = number(line, "rounds").unwrap_or(8);
-    let end = in_stretches(rt, alloc, step, &function, records, stretches, is_kept);
+    let intervals = number(line, "rounds").unwrap_or(8);
+    let end = in_intervals(rt, alloc, step, &function, records, intervals, is_kept);
     add_end(text, alloc, end, &*function, &step.rules, records)?;
     text.push_str("\n")
 }
@@ -300,12 +304,12 @@ fn add_told<R: Threads + Wait + Sync>(
     let end = run_records(rt, alloc, &step, new_letters(), &records, None, rounds);
     add_end(text, alloc, end, &new_letters(), &step.rules, &records)?;
     text.push_str("\n")?;
-    add_stretches(text, rt, alloc, line, &step, &records, false)?;
-    add_stretches(text, rt, alloc, line, &step, &records, true)?;
+    add_intervals(text, rt, alloc, line, &step, &records, false)?;
+    add_intervals(text, rt, alloc, line, &step, &records, true)?;
     Ok(())
 }
 
-/// Stretches don't change what comes of a step.
+/// Intervals don't change what comes of a step.
 #[test]
 fn steps_over_records(rt: HostRuntime) -> Result<(), Fail> {
     let mut text = String::new(rt.alloc());

@@ -1,10 +1,10 @@
 //! Steps over threads.
 
-mod anew;
 mod answers;
 mod beginning;
 mod between;
 mod callbacks;
+mod fresh;
 mod given;
 mod lacking;
 mod meeting;

@@ -5,7 +5,7 @@ ghost use denote.Param.Send.{IsSend};
 ghost use Rattle.jb_rules.specs.declared.row.RowState.TheVariants.{Waiting};
 ghost use Rattle.jb_base.specs.Limits.{max_rollbacks};
 ghost use Rattle.jb_chunk.specs.Attempt.{IsAttempt, ending_of};
-ghost use Rattle.jb_chunk.specs.Standing.{IsReady, HasRepeats};
+ghost use Rattle.jb_chunk.specs.TaskState.{IsReady, HasRepeats};
 
 use crate::workers::tasks::{RULES, boxes, fresh_rows, task_of};
 use jb_artifacts::{Artifacts, Item};
@@ -24,27 +24,27 @@ struct Attempts<T> {
 }
 
 impl<T: PartitionTask> Promise<Done<T>> for Attempts<T> {
-    ghost kept_by = { λ p d. IsAttempt (T.standing p.task.value) (ending_of (T.standing d.task) d.outcome d.values.items d.again) };
+    ghost kept_by = { λ p d. IsAttempt (T.task_state p.task.value) (ending_of (T.task_state d.task) d.outcome d.values.items d.again) };
 }
 
-/// Attempts the task's next chunk in a thread of its own, where one can be made.
+/// Attempts the task's next chunk in its own thread, if one can be made.
 fn attempt_in_thread<T: PartitionTask + Send + 'static>(
     rt: &impl Threads,
     alloc: Global,
     task: T,
 ) -> Option<Done<T>>
-    requires waiting { (T.standing task).row.state ≡ Waiting }
-    requires room { (T.standing task).row.counts.rollback < max_rollbacks }
-    requires repeats { HasRepeats (T.standing task).rules (T.standing task).row }
-    requires ready { IsReady (T.standing task) }
-    ensures { IfSome result (λ d. IsAttempt (T.standing task) (ending_of (T.standing d.task) d.outcome d.values.items d.again)) }
+    requires waiting { (T.task_state task).row.state ≡ Waiting }
+    requires room { (T.task_state task).row.counts.rollback < max_rollbacks }
+    requires repeats { HasRepeats (T.task_state task).rules (T.task_state task).row }
+    requires ready { IsReady (T.task_state task) }
+    ensures { IfSome result (λ d. IsAttempt (T.task_state task) (ending_of (T.task_state d.task) d.outcome d.values.items d.again)) }
 {
     let promise = Attempts {
         task: Snapshot::of(&task),
     };
     let job = move || -> Done<T>
-        requires { IsSend T.row × ((T.standing task).row.state ≡ Waiting) × ((T.standing task).row.counts.rollback < max_rollbacks) × HasRepeats (T.standing task).rules (T.standing task).row × IsReady (T.standing task) }
-        ensures { IsAttempt (T.standing task) (ending_of (T.standing result.task) result.outcome result.values.items result.again) }
+        requires { IsSend T.row × ((T.task_state task).row.state ≡ Waiting) × ((T.task_state task).row.counts.rollback < max_rollbacks) × HasRepeats (T.task_state task).rules (T.task_state task).row × IsReady (T.task_state task) }
+        ensures { IsAttempt (T.task_state task) (ending_of (T.task_state result.task) result.outcome result.values.items result.again) }
     { task.attempt(alloc) };
     match thread::spawn_with(rt, promise, job) {
         Ok(child) => Some(child.join(rt)),

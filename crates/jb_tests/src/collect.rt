@@ -5,7 +5,7 @@ use jb_base::ArtifactError;
 use jb_collect::{Analyzer, AnalyzerCall, ListAnalyzer, Status, deliver};
 use std::test::Fail;
 
-/// With any one request refused, the analyzer is told all of an attempt, or there is no memory for one of the calls.
+/// With any one request refused, the analyzer hears all of an attempt, or there is no memory for one of the calls.
 #[test]
 fn wants_memory_or_answers_in_full(rt: HostRuntime) -> Result<(), Fail> {
     let done = committed(&rt, rt.alloc())?;

@@ -1,4 +1,4 @@
-//! Each document once on its happy path, and the worked documents by their definitions. Those that are refused stand in `cases`.
+//! Each document once on its happy path, and the worked documents by their definitions. Those that are refused are in `cases`.
 
 ghost use Rattle.jb_documents.specs.CheckDocument.{Claims};
 ghost use Rattle.jb_documents.specs.PlanDocument.{AsksFor};
@@ -27,7 +27,7 @@ const ONE_STEP: &str =
     r#"{"job":{"id":"j","exception-classes":["E"],"step":[{"id":"s","chunk":{}}]},
         "data":[{"records":["a","b"],"drop":"x","faults":{"read":[[0,"bad","E"],[1,"shaky",["E"]]]}}]}"#;
 
-/// The same with its data twice, of which the last stand. It isn't plain, so the tree of the text decides.
+/// The same with its data twice: the last data count. It isn't plain, so the tree of the text decides.
 const DATA_TWICE: &str =
     r#"{"job":{"id":"j","exception-classes":["E"],"step":[{"id":"s","chunk":{}}]},"data":[],
         "data":[{"records":["a","b"],"drop":"x","faults":{"read":[[0,"bad","E"],[1,"shaky",["E"]]]}}]}"#;

@@ -1,6 +1,6 @@
 //! Tests of the libraries' public calls: what no clause says, worked values of their definitions, and memory that is refused.
 //!
-//! They stand apart from the libraries, so that each of those is proved once. A module has the tests of the library of its
+//! They are apart from the libraries, so that each of those is proved once. A module has the tests of the library of its
 //! name; `rounds` those of `jb_cert` too. The libraries that work over threads have theirs in `jb_step_tests`.
 #![tactic(auto)]
 

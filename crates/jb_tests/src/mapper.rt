@@ -1,4 +1,4 @@
-//! Plans of both mappers, and the even cover computed on numbers of its own.
+//! Plans of both mappers, and the even cover computed on worked numbers.
 
 ghost use Rattle.std.specs.Prelude.{◌≡◌, [], ◌∷◌};
 ghost use Rattle.jb_mapper.specs.EvenCover.{even_ranges};
@@ -15,7 +15,7 @@ fn worked_covers()
     ensures none { even_ranges 0 1 ≡ record { lo = 0; hi = 0 } ∷ [] }
 {}
 
-/// Whether these are the even ranges of as many records as a step has, by as many partitions as a mapper is asked for.
+/// Whether these are the even ranges of the most records that a step may have, by the most partitions that a mapper may get.
 fn are_4_096(ranges: &[Range]) -> bool {
     match (ranges.first(), ranges.last()) {
         (Some(first), Some(last)) => {
@@ -26,7 +26,7 @@ fn are_4_096(ranges: &[Range]) -> bool {
     }
 }
 
-/// As many partitions as a mapper is asked for: an even plan, and its copy.
+/// The most partitions that a mapper may get: an even plan, and its copy.
 #[test]
 fn plans_of_4_096_partitions(rt: HostRuntime) -> Result<(), Fail> {
     worked_covers();
@@ -37,7 +37,7 @@ fn plans_of_4_096_partitions(rt: HostRuntime) -> Result<(), Fail> {
     Ok(())
 }
 
-/// What a mapper of seven records answers, if not want of memory; in place of that, the plan of the second call.
+/// What a mapper of seven records answers. If it is out of memory, the plan of the second call instead.
 fn answer(mapper: &mut dyn PartitionMapper) -> Result<PartitionPlan, ArtifactError> {
     match mapper.map(7) {
         Err(ArtifactError::Memory) => mapper.map(7),
@@ -50,7 +50,7 @@ fn is_of_three(plan: &PartitionPlan) -> bool {
     plan.threads == 2 && !plan.replace && plan.ranges.as_slice().len() == 3
 }
 
-/// With any one request refused, both mappers answer the whole plan or want of memory, and then the whole plan.
+/// With any one request refused, both mappers answer the whole plan, or out of memory and then the whole plan.
 #[test]
 fn wants_memory_or_answers_in_full(rt: HostRuntime) -> Result<(), Fail> {
     let plan = answer(&mut EvenMapper::new(rt.alloc(), 3, 2, false));

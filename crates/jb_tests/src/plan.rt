@@ -1,4 +1,4 @@
-//! The definitions, computed: the blocks of a range, and what is wrong with a plan. What is refused stands in `cases/run`.
+//! The definitions, computed: the blocks of a range, and what is wrong with a plan. What is refused is in `cases/run`.
 
 ghost use Rattle.std.specs.Prelude.{◌≡◌, [], ◌∷◌, Some, None, slice_get, false};
 ghost use Rattle.jb_plan.specs.Blocks.{blocks, left, blocks_left};
@@ -7,8 +7,8 @@ ghost use Rattle.jb_plan.specs.Plans.{threads_of};
 
 use jb_plan::*;
 
-/// The definition of the blocks, computed: a range of which three records are to be done again, one that is cut into
-/// full chunks, and one of which nothing is left.
+/// The definition of the blocks, computed. Among the ranges are one of which two records are to be done again, one that is
+/// cut into full chunks, and one of which nothing is left.
 #[tactic(auto, unfolding(jb_plan::specs::Blocks::blocks))]
 fn worked_blocks()
     ensures redone { blocks 1 3 7 2 ≡ record { lo = 1; hi = 2 } ∷ record { lo = 2; hi = 3 } ∷ record { lo = 3; hi = 5 } ∷ record { lo = 5; hi = 7 } ∷ [] }

@@ -19,7 +19,7 @@ enum Form {
     Json,
 }
 
-/// Texts, and the records that they are read into, each with a bar behind it, or what their refusal says.
+/// Texts, and the records that they are read into, each with a bar after it, or what their refusal says.
 const TEXTS: [(Form, &str, &str); 11] = [
     (Form::Lines, "", ""),
     (Form::Lines, "\n", "|"),
@@ -49,7 +49,7 @@ fn read(alloc: Global, form: Form, text: &[u8]) -> Result<PackedList, RecordsErr
     }
 }
 
-/// The records, each with a bar behind it.
+/// The records, each with a bar after it.
 fn joined(alloc: Global, records: &PackedList) -> Result<Vec<u8>, AllocError> {
     let mut all = Vec::new(alloc);
     for number in 0..records.len() {
@@ -59,7 +59,7 @@ fn joined(alloc: Global, records: &PackedList) -> Result<Vec<u8>, AllocError> {
     Ok(all)
 }
 
-/// Whether the text is told of so: the records or the refusal. Where a request for memory is refused, it is at the second
+/// Whether the text is read so: as these records or with this refusal. If a request for memory is refused, it is at the second
 /// call.
 fn tells(alloc: Global, form: Form, text: &str, want: &str) -> bool {
     match told(alloc, form, text) {
@@ -68,7 +68,7 @@ fn tells(alloc: Global, form: Form, text: &str, want: &str) -> bool {
     }
 }
 
-/// What is told of the records of a text.
+/// The records of a text, joined, or what its refusal says.
 fn told(alloc: Global, form: Form, text: &str) -> Result<Vec<u8>, AllocError> {
     match read(alloc, form, text.as_bytes()) {
         Ok(records) => joined(alloc, &records),

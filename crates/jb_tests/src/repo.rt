@@ -34,8 +34,8 @@ fn worked_lists()
     ensures skipped_writes { table_answers two_partitions skipped_writes ≡ None ∷ None ∷ Some Refused.BadDelta ∷ Some Refused.BadDelta ∷ Some Refused.BadDelta ∷ None ∷ [] }
 {}
 
-/// The same of each event with each of its refusals, and the rows after them: the first partition is finished, the second has failed, each
-/// after as many repeats as there may be.
+/// The same of each event with each of its refusals, and the rows after them. The first partition is finished and the second has failed,
+/// each after as many repeats as there may be.
 fn worked_refusals()
     ensures answers { (class : ClassId) → table_answers two_partitions (refused_events class) ≡ answers class }
     ensures rows { (class : ClassId) → rows_of (journal_after two_partitions (refused_events class)) ≡
@@ -45,8 +45,8 @@ fn worked_refusals()
     ensures second { (class : ClassId) → failure (journal_after two_partitions (refused_events class)) 1 ≡ Some class }
 {}
 
-/// The same of repeats in place: as many as an attempt makes, and one more; a row with room for those of one more chunk, and one that
-/// has too many before; and a row with room for one more rollback.
+/// The same of repeats in place: as many as an attempt makes, and one more. A row has room for those of one more chunk, another has too
+/// many before. And a row has room for one more rollback.
 fn worked_repeats()
     ensures few { (class : ClassId) → table_answers two_partitions (Event.Plan 1 (Certificate.Longest 0) ∷ Event.Begin 0 0 ∷ Event.Begin 1 1 ∷ Event.Commit 0 (delta_of two_records) 2 100000 ∷ Event.Roll 1 class 100000 ∷ []) ≡ None ∷ None ∷ None ∷ None ∷ None ∷ [] }
     ensures many { (class : ClassId) → table_answers two_partitions (Event.Plan 1 (Certificate.Longest 0) ∷ Event.Begin 0 0 ∷ Event.Commit 0 (delta_of two_records) 2 100001 ∷ Event.Roll 0 class 100001 ∷ Event.Fail 0 class 100001 ∷ []) ≡ None ∷ None ∷ Some Refused.BadDelta ∷ Some Refused.BadDelta ∷ Some Refused.BadDelta ∷ [] }
@@ -234,7 +234,7 @@ fn what_a_repository_is_opened_with(rt: HostRuntime) -> Result<(), AllocError> {
     Ok(())
 }
 
-/// Applies a lawful event. Where its memory is refused nothing changes, and the event is accepted afterwards.
+/// Applies an event that fits. If its memory is refused nothing changes, and the event is accepted afterwards.
 fn apply_lawful(rt: &impl Abort, repo: &mut Repo, event: Event) {
     let events = repo.history().len();
     let totals = repo.totals();
@@ -246,7 +246,7 @@ fn apply_lawful(rt: &impl Abort, repo: &mut Repo, event: Event) {
     assert!(rt; repo.history().len() == events + 1);
 }
 
-/// Applies lawful events one after another.
+/// Applies events that fit, one after another.
 fn apply_each(rt: &impl Abort, repo: &mut Repo, events: &[Event]) {
     for event in events {
         apply_lawful(rt, repo, *event);
@@ -347,6 +347,6 @@ fn names_of_refusals(rt: HostRuntime) -> Result<(), AllocError> {
     Ok(())
 }
 
-/// The names of all refusals, each with a full stop behind it.
+/// The names of all refusals, each with a full stop after it.
 const NAMES: &str =
     "Stopping.NoPartition.LaneRange.LaneBusy.NotIdle.NotRunning.BadDelta.StillRunning.PastPlan.BadPlan.no memory.Full.";

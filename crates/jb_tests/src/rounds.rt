@@ -1,5 +1,5 @@
-//! Large loads, and want of memory; for `jb_cert` too. Every small load stands in `tests/printed-plans`, and what is refused or printed
-//! in `cases/plan` and `cases/check`.
+//! Large loads, and out of memory; for `jb_cert` too. Every small load is in `tests/printed-plans`, and what is refused or printed
+//! is in `cases/plan` and `cases/check`.
 
 use jb_cert::{Certificate, Plan, PlanFault, check_plan, fits, is_least_plan};
 use jb_rounds::{RoundCursor, plan};
@@ -16,7 +16,7 @@ fn finds_slots_of_a_large_load(rt: HostRuntime) -> Result<(), AllocError> {
     Ok(())
 }
 
-// Whether the plan is lawful.
+// Whether the plan is valid: no fault is found in it.
 fn is_lawful(alloc: Global, counts: &[u64], threads: u32, made: &Plan) -> bool {
     fits(counts, threads) && check_plan(alloc, counts, threads, made) == Ok(())
 }
@@ -41,7 +41,7 @@ fn is_judged(alloc: Global, counts: &[u64], made: &Plan, wanted: Result<(), Plan
     verdict == wanted || verdict == Err(PlanFault::Memory)
 }
 
-// With any one allocation refused, a call answers in full or with want of memory. `tests/refused-memory` runs it with each
+// With any one allocation refused, a call answers in full or is out of memory. `tests/refused-memory` runs it with each
 // refused in turn.
 #[test]
 fn wants_memory_or_answers_in_full(rt: HostRuntime) {

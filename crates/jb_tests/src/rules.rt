@@ -1,4 +1,4 @@
-//! The definitions, computed: the choices of a fault, the life of a row, and what a chunk adds. What is refused of a row stands in
+//! The definitions, computed: the choices of a fault, the steps of a row, and what a chunk adds. What is refused of a row is in
 //! `cases/restart`.
 
 ghost use Rattle.std.specs.Prelude.{◌≡◌, ◌∷◌, [], Some, None, codes, true, false};
@@ -11,7 +11,7 @@ ghost use Rattle.jb_chunk.specs.Worked.{class_e, class_f, rules_of, one_skip, tw
 
 use jb_rules::*;
 
-/// The rule of faults, computed: skipping and retrying may both be open, one of them, or none; and a retry may roll the chunk
+/// The rule of faults, computed. Skipping and retrying may both be open, one of them, or none. A retry may roll the chunk
 /// back, or repeat the call in place.
 fn worked_choices()
     ensures both { choice_of (rules_of 1 1) class_e false 0 0 ≡ Choice.Retry }
@@ -47,8 +47,8 @@ fn worked_limits()
     ensures in_place_both_over { choice_of (record (one_skip 1 1) { retry_limit = 2; no_rollback = 1 }) class_e true 1 2 ≡ Choice.Fail }
 {}
 
-/// The life of a row, computed: a partition of four records whose first chunk of two is begun, given up, begun again,
-/// rolled back, and done again record by record; then the write of the rest is skipped. And a chunk with repeats in place.
+/// The steps of a row, computed. The partition has four records. Its first chunk of two is started, given up, started again,
+/// rolled back, and done again record by record. Then the write of the rest is skipped. And a chunk with repeats in place.
 fn worked_rows()
     ensures fresh { fresh_row (record { lo = 0; hi = 4 }) ≡ record { lo = 0; hi = 4; at = 0; redo = 0; retries = 0; written = 0; counts = no_counts; in_place = 0; state = RowState.Waiting } }
     ensures empty { fresh_row (record { lo = 2; hi = 2 }) ≡ record { lo = 2; hi = 2; at = 2; redo = 2; retries = 0; written = 0; counts = no_counts; in_place = 0; state = RowState.Finished } }
@@ -74,8 +74,8 @@ fn worked_chunks()
     ensures running { remaining_of 2 (fresh_row (record { lo = 0; hi = 4 })) (RowState.Running 3) ≡ 0 }
 {}
 
-/// What a chunk of two records may add to the counts, computed: one read skipped and one item written, a write skipped
-/// with one result; and what it may not: a record too few, two commits, a rollback, an item that nothing became of,
+/// What a chunk of two records may add to the counts, computed: one read skipped and one item written, or a write skipped
+/// with one result. And what it may not: a record too few, two commits, a rollback, an item that nothing became of,
 /// a skipped write with no result, or with one written.
 fn worked_deltas()
     ensures written { is_delta 2 (record no_counts { read = 1; write = 1; commit = 1; read_skip = 1 }) ≡ true }
@@ -88,7 +88,7 @@ fn worked_deltas()
     ensures both { is_delta 2 (record no_counts { read = 2; write = 1; commit = 1; write_skip = 1 }) ≡ false }
 {}
 
-/// What stands in a row's text, computed: its numbers in their order, and the state of a name, but that none is named `running`.
+/// What a row's text holds, computed: its numbers in their order, and the state of a name, but that none is named `running`.
 fn worked_texts()
     ensures numbers { numbers_of (record { lo = 1; hi = 2; at = 3; redo = 4; retries = 5; written = 6; counts = record { read = 7; write = 8; commit = 9; rollback = 10; read_skip = 11; process_skip = 12; filter = 13; write_skip = 14 }; in_place = 15; state = RowState.Waiting }) ≡ 1 ∷ 2 ∷ 3 ∷ 4 ∷ 5 ∷ 6 ∷ 7 ∷ 8 ∷ 9 ∷ 10 ∷ 11 ∷ 12 ∷ 13 ∷ 14 ∷ 15 ∷ [] }
     ensures finished { state_named (codes "done") ≡ Some RowState.Finished }

@@ -1,4 +1,4 @@
-//! Saved rows: worked rows by their texts, as many as there may be, and want of memory. What is refused, and what goes on, stands in
+//! Saved rows: worked rows by their texts, as many as there may be, and out of memory. What is refused, and what resumes, is in
 //! `cases/restart`.
 
 use crate::repo::{most_rows, opened, rows_of};
@@ -7,11 +7,11 @@ use jb_saved::{SavedError, SavedRows, rows_to_go_on};
 use std::alloc::{AllocError, Global};
 use std::process::Abort;
 
-/// Rows of a step `s`, without the object around them: seven records in three partitions after one round, the same once it is done,
-/// a partition that failed beside one that is done, no record at all, one record with the most rollbacks, and chunks that were rolled
-/// back or whose write was skipped; then calls that were repeated in place, in a chunk that was committed, before one that failed,
-/// and in one that was rolled back, and one record with the most repeats, and with the most rollbacks too; then a partition whose
-/// items were all filtered, one that was done again record by record, and one that failed after its retries.
+/// Rows of a step `s`, without the object around them. First come seven records in three partitions after one round, and the same once
+/// it is done. Then a partition that failed beside one that is done, no record at all, and one record with the most rollbacks. Then
+/// chunks that were rolled back or whose write was skipped. Then calls that were repeated in place: in a chunk that was committed,
+/// before one that failed, and in one that was rolled back. Then one record with the most repeats, and one with the most rollbacks too.
+/// Then a partition whose items were all filtered, one that was done again record by record, and one that failed after its retries.
 const ROWS: &str =
     r#"[0,3,2,0,0,2,2,2,1,0,0,0,0,0,0,"waiting"],[3,5,5,3,0,2,2,2,1,0,0,0,0,0,0,"done"],[5,7,5,5,0,0,0,0,0,0,0,0,0,0,0,"waiting"]
 [0,3,3,0,0,3,3,3,2,0,0,0,0,0,0,"done"],[3,5,5,3,0,2,2,2,1,0,0,0,0,0,0,"done"],[5,7,7,5,0,2,2,2,1,0,0,0,0,0,0,"done"]
@@ -43,14 +43,14 @@ fn are_those(saved: &SavedRows, read: Result<SavedRows, SavedError>) -> bool {
     }
 }
 
-/// Whether the rows are written as they stand in this text, and are what is read again.
+/// Whether the rows are written as this text has them, and are what is read again.
 fn are_kept(alloc: Global, saved: &SavedRows, text: &str) -> Option<bool> {
     let written = saved.text(alloc).ok()?;
     let read = SavedRows::read(alloc, written.as_bytes());
     Some(written.as_str() == text && are_those(saved, read))
 }
 
-/// Whether there are rows to go on from, as many as were saved.
+/// Whether there are rows to resume from, as many as were saved.
 fn goes_on(alloc: Global, saved: &SavedRows) -> bool {
     match rows_to_go_on(alloc, "s", 1_024, saved) {
         Ok(rows) => rows.len() == saved.rows().len(),
@@ -58,7 +58,7 @@ fn goes_on(alloc: Global, saved: &SavedRows) -> bool {
     }
 }
 
-/// Whether these rows are read, written, read again, and gone on from, where there is memory for it.
+/// Whether these rows are read, written, read again, and resumed from, where there is memory for it.
 fn is_read(alloc: Global, rows: &str) -> Option<bool> {
     let text = text_of(alloc, rows).ok()?;
     let saved = SavedRows::read(alloc, text.as_bytes()).ok()?;
@@ -66,7 +66,7 @@ fn is_read(alloc: Global, rows: &str) -> Option<bool> {
     Some(is_kept && saved.step_id() == "s" && goes_on(alloc, &saved))
 }
 
-/// Whether these rows of a repository are saved, written, read, and gone on from, where there is memory for it.
+/// Whether these rows of a repository are saved, written, read, and resumed from, where there is memory for it.
 fn is_saved(rt: &impl Abort, alloc: Global, rows: Vec<Row>, told: &str) -> Option<bool> {
     let text = text_of(alloc, told).ok()?;
     let snapshot = opened(rt, rows, 64, 2).snapshot().ok()?;

@@ -8,14 +8,14 @@ use Rattle.std.proofs.lemmas.List.Elements.{filter-append}
 use Rattle.json.specs.Token.{Token, string}
 use Rattle.serde_json.specs.Data.{Data}
 use Rattle.jb_collect.specs.declared.calls.AnalyzerCall.{AnalyzerCall}
-use Rattle.jb_collect.specs.Heard.{partition_told}
+use Rattle.jb_collect.specs.Heard.{partition_heard}
 use Rattle.jb_collect.specs.Heard.{calls_about}
 use Rattle.jb_saved.specs.SavedTree.{tokens_of}
 use Rattle.jb_texts.specs.Report.{heard_about, heard_text, results_tree}
 use Rattle.jb_texts.specs.inside.Heard.{placed}
 
 -- one list grew by the call
-pub placed-here : {V : Type 0} (shown : V → List AnalyzerCall) (vs : List V) (p : ℕ) (v w : V) (call : AnalyzerCall) → p ≡ partition_told call → p < length vs → v ≡ get_or vs p v → shown w ≡ shown v ++ call ∷ []
+pub placed-here : {V : Type 0} (shown : V → List AnalyzerCall) (vs : List V) (p : ℕ) (v w : V) (call : AnalyzerCall) → p ≡ partition_heard call → p < length vs → v ≡ get_or vs p v → shown w ≡ shown v ++ call ∷ []
     → map shown (set vs p w) ≡ placed call (map shown vs)
 placed-here shown vs p v w call is within was grew =
     map-set shown vs p w ∙ ap (set (map shown vs) p) (grew ∙ ap (λ calls. calls ++ call ∷ []) (ap shown was ∙ sym (get_or-map shown vs p v [] within))) ∙ ap (λ n. set (map shown vs) n (get_or (map shown vs) n [] ++ call ∷ [])) is
@@ -28,30 +28,30 @@ module _ (call : AnalyzerCall) (before : List AnalyzerCall) where
   abbrev pub more : (a n : ℕ) → List (List AnalyzerCall)
   more a n = map (λ p. calls_about p (before ++ call ∷ [])) (range_with_len a n)
 
-  one-more : (p : ℕ) (b : Bool) → nat_eq (partition_told call) p ≡ b → calls_about p (before ++ call ∷ []) ≡ calls_about p before ++ cond b (call ∷ []) []
-  one-more p b is = filter-append (λ c. nat_eq (partition_told c) p) before (call ∷ []) ∙ ap (λ t. calls_about p before ++ cond t (call ∷ []) []) is
+  one-more : (p : ℕ) (b : Bool) → nat_eq (partition_heard call) p ≡ b → calls_about p (before ++ call ∷ []) ≡ calls_about p before ++ cond b (call ∷ []) []
+  one-more p b is = filter-append (λ c. nat_eq (partition_heard c) p) before (call ∷ []) ∙ ap (λ t. calls_about p before ++ cond t (call ∷ []) []) is
 
-  same : (p : ℕ) (b : Bool) → nat_eq (partition_told call) p ≡ b → (partition_told call ≡ p → ⊥) → calls_about p (before ++ call ∷ []) ≡ calls_about p before
+  same : (p : ℕ) (b : Bool) → nat_eq (partition_heard call) p ≡ b → (partition_heard call ≡ p → ⊥) → calls_about p (before ++ call ∷ []) ≡ calls_about p before
   same p true is other = absurd (other (grind (arith, nat_tests, is)))
   same p false is other = one-more p false is ∙ append-nil (calls_about p before)
 
   -- the others are as they were
-  others : (a n : ℕ) → partition_told call < a → lists a n ≡ more a n
+  others : (a n : ℕ) → partition_heard call < a → lists a n ≡ more a n
   others a zero below = refl
   others a (suc n) below =
-      ap (λ x. x ∷ lists (a + 1) n) (sym (same a (nat_eq (partition_told call) a) refl (λ e. omega (arith, e, below)))) ∙ ap (λ xs. calls_about a (before ++ call ∷ []) ∷ xs) (others (a + 1) n (omega (arith, below)))
+      ap (λ x. x ∷ lists (a + 1) n) (sym (same a (nat_eq (partition_heard call) a) refl (λ e. omega (arith, e, below)))) ∙ ap (λ xs. calls_about a (before ++ call ∷ []) ∷ xs) (others (a + 1) n (omega (arith, below)))
 
-  put : (a k n : ℕ) → partition_told call ≡ a + k → set (lists a n) k (get_or (lists a n) k [] ++ call ∷ []) ≡ more a n
+  put : (a k n : ℕ) → partition_heard call ≡ a + k → set (lists a n) k (get_or (lists a n) k [] ++ call ∷ []) ≡ more a n
   put a k zero is = refl
   put a zero (suc n) is =
-      let here : nat_eq (partition_told call) a ≡ true = grind (arith, nat_tests, is) in
+      let here : nat_eq (partition_heard call) a ≡ true = grind (arith, nat_tests, is) in
       ap (λ x. x ∷ lists (a + 1) n) (sym (one-more a true here)) ∙ ap (λ xs. calls_about a (before ++ call ∷ []) ∷ xs) (others (a + 1) n (omega (arith, is)))
   put a (suc k) (suc n) is =
-      ap (λ x. x ∷ set (lists (a + 1) n) k (get_or (lists (a + 1) n) k [] ++ call ∷ [])) (sym (same a (nat_eq (partition_told call) a) refl (λ e. omega (arith, e, is))))
+      ap (λ x. x ∷ set (lists (a + 1) n) k (get_or (lists (a + 1) n) k [] ++ call ∷ [])) (sym (same a (nat_eq (partition_heard call) a) refl (λ e. omega (arith, e, is))))
       ∙ ap (λ xs. calls_about a (before ++ call ∷ []) ∷ xs) (put (a + 1) k n (omega (arith, is)))
 
   pub placed-more : (n : ℕ) → placed call (lists 0 n) ≡ more 0 n
-  placed-more n = put 0 (partition_told call) n (omega arith)
+  placed-more n = put 0 (partition_heard call) n (omega arith)
 
 -- ---- what is written of them
 

@@ -16,7 +16,7 @@ certificate_word false = codes "no"
 unfoldable pub check_text : Judgement → List ℕ
 check_text found = codes "plan " ++ (plan_word found.fault ++ (codes "\ncertificate " ++ (certificate_word found.certified ++ codes "\n")))
 
--- 0 where the plan is lawful and its certificate holds, else 1
+-- 0 if the plan has no fault and its certificate holds, else 1
 abbrev pub status_by : Option PlanFault → Bool → ℕ
 status_by None true = 0
 status_by None false = 1

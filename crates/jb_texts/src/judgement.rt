@@ -9,14 +9,14 @@ use std::fmt;
 /// What was found of a plan and of its certificate.
 #[derive(Clone, Copy, Debug, PartialEq, Eq)]
 pub struct Judgement {
-    /// The plan's first fault; none where it is lawful.
+    /// The plan's first fault, or `None` if it has no fault.
     pub fault: Option<PlanFault>,
     /// Whether the certificate holds for the plan's number of rounds.
     pub certified: bool,
 }
 
 impl Judgement {
-    /// The exit status: 0 where the plan is lawful and its certificate holds, else 1.
+    /// The exit status: 0 if the plan has no fault and its certificate holds, else 1.
     pub fn status(self) -> u8
         ensures { result ≡ check_status self }
     {

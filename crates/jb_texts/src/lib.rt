@@ -1,11 +1,11 @@
 //! What the program writes: the report of a run, the lines of a plan, and what was found of a plan.
 //!
-//! - `status`: how a step or a job stands, and the exit status.
+//! - `status`: the status of a step or a job, and the exit status.
 //! - `report`: the report of a run, which is written as JSON text while the job runs.
 //! - `plan`: the heading and the lines of a plan of rounds.
 //! - `judgement`: two lines on a plan and its certificate.
 //! - `block`: text that is written in blocks.
-//! - `whole`: writing a text, and what stands there where the writer fails.
+//! - `whole`: writing a text, and what is written if the writer fails.
 #![tactic(auto)]
 
 mod block;

@@ -1,4 +1,4 @@
-//! The lines of a plan of rounds, written slot by slot: no plan is kept in memory.
+//! The lines of a plan of rounds, written slot by slot: no plan is held in memory.
 //!
 //! - `lanes`: what the lanes have in a round.
 //! - `lines`: the heading, and a line for each round.

@@ -1,11 +1,11 @@
 //! The report of a run, as one JSON text.
 //!
-//! It is put together while the job runs, but for the results: these stay as the writers held them, and are written at the end, between the
+//! The text grows while the job runs, without the results: these stay as the writers held them. They are written at the end, between the
 //! parts of the text.
 //!
 //! - `text`: bytes as a text.
 //! - `heard`: what the analyzer heard.
-//! - `parts`: a part of the text, and results behind it.
+//! - `parts`: a part of the text, and results after it.
 //! - `outputs`: the results of a partition, written in blocks.
 //! - `plans`: the plans of a step's rounds.
 //! - `reducer`: the calls of a step's reducer.

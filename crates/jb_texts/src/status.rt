@@ -1,4 +1,4 @@
-//! How a step or a job stands, and the exit status of a job.
+//! The status of a step or a job, and the exit status of a job.
 
 ghost use Rattle.std.specs.Prelude.{◌≡◌, ◌<◌};
 ghost use Rattle.jb_texts.specs.Statuses.{status_code, status_name};
@@ -17,7 +17,7 @@ pub fn status_name(status: Status) -> &'static str
     }
 }
 
-/// The exit status of a job that stands so: 0 where it is completed, 1 where it failed, and 2 where it was stopped before its
+/// The exit status of a job with this status: 0 if it is completed, 1 if it failed, and 2 if it was stopped before its
 /// end.
 pub fn status_code(status: Status) -> u8
     ensures code { result ≡ status_code status }

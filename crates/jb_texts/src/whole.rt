@@ -45,7 +45,7 @@ pub fn write_whole<W: Write>(bytes: &[u8], writer: &mut W) -> io::Result<()>
     writer.flush()
 }
 
-/// Writes the texts, one behind another, and flushes the writer. Where it fails, it holds what it had taken: the front of them.
+/// Writes the texts, one after another, and flushes the writer. If it fails, it holds what it had taken: the front of them.
 pub fn write_joined<W: Write>(texts: &[&[u8]], writer: &mut W) -> io::Result<()>
     ensures whole { OnOk result (Appends (W.contents writer.old) (W.contents writer.new) (concat (map (λ t. t.now) texts.now))) }
     ensures front { OnErr result (AppendsFront (W.contents writer.old) (W.contents writer.new) (concat (map (λ t. t.now) texts.now))) }

@@ -5,7 +5,7 @@ use Rattle.jb_rules.specs.declared.row.RowState.TheVariants.{Waiting}
 use Rattle.jb_rules.specs.Rows.{row_block, begun_row, repeated_row, committed_row, rolled_row, failed_row, dropped_row}
 use Rattle.jb_chunk.specs.declared.outcome.Outcome.{Outcome}
 use Rattle.jb_chunk.specs.declared.outcome.Outcome.TheVariants.{Committed, Rolled, Failed, NoMemory}
-use Rattle.jb_chunk.specs.Standing.{TaskState}
+use Rattle.jb_chunk.specs.TaskState.{TaskState}
 use Rattle.jb_chunk.specs.Attempt.{AttemptEnd, IsAttemptBy, attempt_of, ending_by, end_of, after_repeats, again_of}
 use Rattle.jb_chunk.specs.Laws.{RepeatsAreRetries}
 use Rattle.jb_repo.specs.Laws.{next_row}

@@ -9,7 +9,7 @@ use Rattle.jb_chunk.specs.declared.outcome.Outcome.{Outcome}
 use Rattle.jb_chunk.specs.declared.outcome.Outcome.TheVariants.{Committed, Rolled, Failed, NoMemory}
 use Rattle.jb_chunk.specs.Attempt.{AttemptEnd, IsAttempt, block_of}
 use Rattle.jb_chunk.specs.Laws.{CommitsHaveDeltas, TasksStandAtCheckpoints}
-use Rattle.jb_chunk.specs.Standing.{TaskState}
+use Rattle.jb_chunk.specs.TaskState.{TaskState}
 use Rattle.jb_repo.specs.Deltas.{FitDelta}
 use Rattle.jb_workers.specs.Works.{CanBegin}
 use Rattle.jb_workers.specs.inside.Fitting.{HasFittingDelta, AttemptsFit}

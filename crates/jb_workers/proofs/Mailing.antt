@@ -4,7 +4,7 @@ use mathlib.Core.Option.{some, some-ne-none}
 use lib.ListN.{get_elem?}
 use Rattle.crossbeam_queue.specs.Fifo.{Pushes, Pops, Forks, Learns}
 use Rattle.crossbeam_queue.proofs.Lists.{at_set, at_snoc}
-use Rattle.jb_chunk.specs.Standing.{TaskState}
+use Rattle.jb_chunk.specs.TaskState.{TaskState}
 use Rattle.jb_chunk.specs.declared.outcome.Done.{Done}
 use Rattle.jb_workers.specs.declared.worker.lane_work.Work.{Work}
 use Rattle.jb_workers.specs.declared.round.error.RoundError.{RoundError}
@@ -29,8 +29,8 @@ module _ {T : Type 0} where
   each_set F views pass w mine others j u e = ⊎_elim (λ (x : (j ≡ pass) × (w ≡ u)). subst (λ (y : ℕ × Known T). F y.0 y.1) (λ i. (sym x.0 i, x.1 i)) mine)
       (λ (x : (j ≢ pass) × (get_elem? views j ≡ some u)). others j u x.0 x.1) (at_set views pass j w u e)
 
-  pub begins : (standing : T → TaskState) → IsMailbox standing [] (known true true None ∷ [])
-  begins standing = (0, 0, None, None, inl refl, each_set (Knows 0 0 None None) (known true true None ∷ []) 0 (known true true None) ((λ _. (refl, refl)), λ _. (refl, refl)) (λ j u other e. absurd (other (at_end [] _ u j (λ x. some-ne-none u (sym x)) e))))
+  pub begins : (task_state : T → TaskState) → IsMailbox task_state [] (known true true None ∷ [])
+  begins task_state = (0, 0, None, None, inl refl, each_set (Knows 0 0 None None) (known true true None ∷ []) 0 (known true true None) ((λ _. (refl, refl)), λ _. (refl, refl)) (λ j u other e. absurd (other (at_end [] _ u j (λ x. some-ne-none u (sym x)) e))))
 
   -- an end of the caller, or of the worker, and not of both
   caller-learns : (caller worker : ℕ) (asked doing new : Option (Work T)) (views : List (Known T)) (pass : ℕ) (v : Known T) → v.of_caller ≡ true → v.of_worker ≡ false
@@ -48,43 +48,43 @@ module _ {T : Type 0} where
       (λ j u other e. ((fit j u e).0, λ p. absurd (other (((fit j u e).1 p).0 ∙ sym mine.0))))
 
   -- a caller that has asked for nothing finds it empty, and nothing is being done
-  empty_idle : (standing : T → TaskState) (items : List (Message T)) (doing : Option (Work T)) → Lies standing items None doing → (items ≡ []) × (doing ≡ None)
-  empty_idle standing [] doing (inl e) = (refl, e)
-  empty_idle standing [] doing (inr e) = (refl, e)
-  empty_idle standing (Ask work ∷ []) doing s = let e = s.1 in absurd cc
-  empty_idle standing (Answer answer ∷ []) doing s = let e = s.1.is in absurd cc
-  empty_idle standing (Ask work ∷ y ∷ rest) doing s = absurd s
-  empty_idle standing (Answer answer ∷ y ∷ rest) doing s = absurd s
+  empty_idle : (task_state : T → TaskState) (items : List (Message T)) (doing : Option (Work T)) → Lies task_state items None doing → (items ≡ []) × (doing ≡ None)
+  empty_idle task_state [] doing (inl e) = (refl, e)
+  empty_idle task_state [] doing (inr e) = (refl, e)
+  empty_idle task_state (Ask work ∷ []) doing s = let e = s.1 in absurd cc
+  empty_idle task_state (Answer answer ∷ []) doing s = let e = s.1.is in absurd cc
+  empty_idle task_state (Ask work ∷ y ∷ rest) doing s = absurd s
+  empty_idle task_state (Answer answer ∷ y ∷ rest) doing s = absurd s
 
   -- while a work is being done it is empty, and that work was asked for
-  empty_busy : (standing : T → TaskState) (items : List (Message T)) (asked : Option (Work T)) (work : Work T) → Lies standing items asked (Some work) → (items ≡ []) × (asked ≡ Some work)
-  empty_busy standing [] asked work (inl e) = absurd cc
-  empty_busy standing [] asked work (inr e) = (refl, sym e)
-  empty_busy standing (Ask other ∷ []) asked work s = let e = s.0 in absurd cc
-  empty_busy standing (Answer answer ∷ []) asked work s = let e = s.0 in absurd cc
-  empty_busy standing (Ask other ∷ y ∷ rest) asked work s = absurd s
-  empty_busy standing (Answer answer ∷ y ∷ rest) asked work s = absurd s
+  empty_busy : (task_state : T → TaskState) (items : List (Message T)) (asked : Option (Work T)) (work : Work T) → Lies task_state items asked (Some work) → (items ≡ []) × (asked ≡ Some work)
+  empty_busy task_state [] asked work (inl e) = absurd cc
+  empty_busy task_state [] asked work (inr e) = (refl, sym e)
+  empty_busy task_state (Ask other ∷ []) asked work s = let e = s.0 in absurd cc
+  empty_busy task_state (Answer answer ∷ []) asked work s = let e = s.0 in absurd cc
+  empty_busy task_state (Ask other ∷ y ∷ rest) asked work s = absurd s
+  empty_busy task_state (Answer answer ∷ y ∷ rest) asked work s = absurd s
 
-  idle : (standing : T → TaskState) (pass : ℕ) (v : Known T) (items : List (Message T)) (views : List (Known T)) → v ≡ known true false None → (h : IsMailbox standing items views) → get_elem? views pass ≡ some v → (items ≡ []) × (h.3 ≡ None)
-  idle standing pass v items views is h at =
+  idle : (task_state : T → TaskState) (pass : ℕ) (v : Known T) (items : List (Message T)) (views : List (Known T)) → v ≡ known true false None → (h : IsMailbox task_state items views) → get_elem? views pass ≡ some v → (items ≡ []) × (h.3 ≡ None)
+  idle task_state pass v items views is h at =
       let none : h.2 ≡ None = sym ((h.5 pass v at).0 (ap (λ (u : Known T). u.of_caller) is)).1 ∙ ap (λ (u : Known T). u.work) is in
-      empty_idle standing items h.3 (subst (λ o. Lies standing items o h.3) none h.4)
+      empty_idle task_state items h.3 (subst (λ o. Lies task_state items o h.3) none h.4)
 
-  busy : (standing : T → TaskState) (pass : ℕ) (v : Known T) (work : Work T) (items : List (Message T)) (views : List (Known T)) → v ≡ known false true (Some work) → (h : IsMailbox standing items views) → get_elem? views pass ≡ some v
+  busy : (task_state : T → TaskState) (pass : ℕ) (v : Known T) (work : Work T) (items : List (Message T)) (views : List (Known T)) → v ≡ known false true (Some work) → (h : IsMailbox task_state items views) → get_elem? views pass ≡ some v
       → (items ≡ []) × (h.2 ≡ Some work)
-  busy standing pass v work items views is h at =
+  busy task_state pass v work items views is h at =
       let doing : h.3 ≡ Some work = sym ((h.5 pass v at).1 (ap (λ (u : Known T). u.of_worker) is)).1 ∙ ap (λ (u : Known T). u.work) is in
-      empty_busy standing items h.2 work (subst (λ o. Lies standing items h.2 o) doing h.4)
+      empty_busy task_state items h.2 work (subst (λ o. Lies task_state items h.2 o) doing h.4)
 
-  pub idle-learns : (standing : T → TaskState) (pass : ℕ) (v : Known T) → v ≡ known true false None → Learns (IsMailbox standing) pass v (λ items. items ≡ [])
-  idle-learns standing pass v is items views h at = (idle standing pass v items views is h at).0
+  pub idle-learns : (task_state : T → TaskState) (pass : ℕ) (v : Known T) → v ≡ known true false None → Learns (IsMailbox task_state) pass v (λ items. items ≡ [])
+  idle-learns task_state pass v is items views h at = (idle task_state pass v items views is h at).0
 
-  pub busy-learns : (standing : T → TaskState) (pass : ℕ) (v : Known T) (work : Work T) → v ≡ known false true (Some work) → Learns (IsMailbox standing) pass v (λ items. items ≡ [])
-  busy-learns standing pass v work is items views h at = (busy standing pass v work items views is h at).0
+  pub busy-learns : (task_state : T → TaskState) (pass : ℕ) (v : Known T) (work : Work T) → v ≡ known false true (Some work) → Learns (IsMailbox task_state) pass v (λ items. items ≡ [])
+  busy-learns task_state pass v work is items views h at = (busy task_state pass v work items views is h at).0
 
-  pub asks : (standing : T → TaskState) (n pass : ℕ) (v : Known T) (work : Work T) → v ≡ known true false None → CanBegin (standing work.task) → Pushes (IsMailbox standing) n pass v (Ask work) (AsksForAWork v (Ask work))
-  asks standing n pass v work is can items views room h at =
-      let empty = idle standing pass v items views is h at in
+  pub asks : (task_state : T → TaskState) (n pass : ℕ) (v : Known T) (work : Work T) → v ≡ known true false None → CanBegin (task_state work.task) → Pushes (IsMailbox task_state) n pass v (Ask work) (AsksForAWork v (Ask work))
+  asks task_state n pass v work is can items views room h at =
+      let empty = idle task_state pass v items views is h at in
       let w : Known T = known v.of_caller v.of_worker (Some work) in (
         w,
         (
@@ -92,16 +92,16 @@ module _ {T : Type 0} where
           h.1,
           Some work,
           None,
-          subst (λ (l : List (Message T)). Lies standing (l ++ Ask work ∷ []) (Some work) None) (sym empty.0) (refl, refl, can),
+          subst (λ (l : List (Message T)). Lies task_state (l ++ Ask work ∷ []) (Some work) None) (sym empty.0) (refl, refl, can),
           subst (λ d. Each (Knows h.0 h.1 (Some work) d) (set views pass w)) empty.1 (caller-learns h.0 h.1 h.2 h.3 (Some work) views pass v (ap (λ (u : Known T). u.of_caller) is) (ap (λ (u : Known T). u.of_worker) is) h.5 at),
         ),
         refl,
       )
 
-  pub answers : (standing : T → TaskState) (n pass : ℕ) (v : Known T) (work : Work T) (answer : Result (Done T) RoundError) → v ≡ known false true (Some work) → MeetsWork standing work answer
-      → Pushes (IsMailbox standing) n pass v (Answer answer) (AnswersAWork v (Answer answer))
-  answers standing n pass v work answer is meets items views room h at =
-      let empty = busy standing pass v work items views is h at in
+  pub answers : (task_state : T → TaskState) (n pass : ℕ) (v : Known T) (work : Work T) (answer : Result (Done T) RoundError) → v ≡ known false true (Some work) → MeetsWork task_state work answer
+      → Pushes (IsMailbox task_state) n pass v (Answer answer) (AnswersAWork v (Answer answer))
+  answers task_state n pass v work answer is meets items views room h at =
+      let empty = busy task_state pass v work items views is h at in
       let w : Known T = known v.of_caller v.of_worker None in (
         w,
         (
@@ -109,42 +109,42 @@ module _ {T : Type 0} where
           h.1,
           h.2,
           None,
-          subst (λ (l : List (Message T)). Lies standing (l ++ Answer answer ∷ []) h.2 None) (sym empty.0) (refl, record { work = work; is = empty.1; meets = meets }),
+          subst (λ (l : List (Message T)). Lies task_state (l ++ Answer answer ∷ []) h.2 None) (sym empty.0) (refl, record { work = work; is = empty.1; meets = meets }),
           worker-learns h.0 h.1 h.2 h.3 None views pass v (ap (λ (u : Known T). u.of_caller) is) (ap (λ (u : Known T). u.of_worker) is) h.5 at,
         ),
         refl,
       )
 
-  pub takes : (standing : T → TaskState) (pass : ℕ) (v : Known T) → v ≡ known false true None → Pops (IsMailbox standing) pass v (Takes standing v)
-  takes standing pass v is (Ask work) [] views h at = (
+  pub takes : (task_state : T → TaskState) (pass : ℕ) (v : Known T) → v ≡ known false true None → Pops (IsMailbox task_state) pass v (Takes task_state v)
+  takes task_state pass v is (Ask work) [] views h at = (
     known v.of_caller v.of_worker (Some work),
     (h.0, h.1, h.2, Some work, inr (sym h.4.1), worker-learns h.0 h.1 h.2 h.3 (Some work) views pass v (ap (λ (u : Known T). u.of_caller) is) (ap (λ (u : Known T). u.of_worker) is) h.5 at),
     (refl, h.4.2),
   )
-  takes standing pass v is (Answer answer) [] views h at = (
+  takes task_state pass v is (Answer answer) [] views h at = (
     known v.of_caller v.of_worker None,
     (h.0, h.1, h.2, None, inl refl, worker-learns h.0 h.1 h.2 h.3 None views pass v (ap (λ (u : Known T). u.of_caller) is) (ap (λ (u : Known T). u.of_worker) is) h.5 at),
     refl,
   )
-  takes standing pass v is (Ask work) (y ∷ rest) views h at = absurd h.4
-  takes standing pass v is (Answer answer) (y ∷ rest) views h at = absurd h.4
+  takes task_state pass v is (Ask work) (y ∷ rest) views h at = absurd h.4
+  takes task_state pass v is (Answer answer) (y ∷ rest) views h at = absurd h.4
 
-  pub hears : (standing : T → TaskState) (pass : ℕ) (v : Known T) → v.of_caller ≡ true → v.of_worker ≡ false → Pops (IsMailbox standing) pass v (Hears standing v)
-  hears standing pass v of_caller of_worker (Ask work) [] views h at = (
+  pub hears : (task_state : T → TaskState) (pass : ℕ) (v : Known T) → v.of_caller ≡ true → v.of_worker ≡ false → Pops (IsMailbox task_state) pass v (Hears task_state v)
+  hears task_state pass v of_caller of_worker (Ask work) [] views h at = (
     known v.of_caller v.of_worker None,
     (h.0, h.1, None, h.3, inl h.4.0, caller-learns h.0 h.1 h.2 h.3 None views pass v of_caller of_worker h.5 at),
     refl,
   )
-  hears standing pass v of_caller of_worker (Answer answer) [] views h at = (
+  hears task_state pass v of_caller of_worker (Answer answer) [] views h at = (
     known v.of_caller v.of_worker None,
     (h.0, h.1, None, h.3, inl h.4.0, caller-learns h.0 h.1 h.2 h.3 None views pass v of_caller of_worker h.5 at),
-    (refl, subst (λ o. IsAnswerTo standing o answer) (sym ((h.5 pass v at).0 of_caller).1) h.4.1),
+    (refl, subst (λ o. IsAnswerTo task_state o answer) (sym ((h.5 pass v at).0 of_caller).1) h.4.1),
   )
-  hears standing pass v of_caller of_worker (Ask work) (y ∷ rest) views h at = absurd h.4
-  hears standing pass v of_caller of_worker (Answer answer) (y ∷ rest) views h at = absurd h.4
+  hears task_state pass v of_caller of_worker (Ask work) (y ∷ rest) views h at = absurd h.4
+  hears task_state pass v of_caller of_worker (Answer answer) (y ∷ rest) views h at = absurd h.4
 
-  pub forks : (standing : T → TaskState) (pass : ℕ) (v : Known T) → v.of_caller ≡ true → v.of_worker ≡ true → Forks (IsMailbox standing) pass v (known true false v.work) (known false true v.work)
-  forks standing pass v a b items views h at =
+  pub forks : (task_state : T → TaskState) (pass : ℕ) (v : Known T) → v.of_caller ≡ true → v.of_worker ≡ true → Forks (IsMailbox task_state) pass v (known true false v.work) (known false true v.work)
+  forks task_state pass v a b items views h at =
       let l : Known T = known true false v.work in
       let r : Known T = known false true v.work in
       let mine = h.5 pass v at in

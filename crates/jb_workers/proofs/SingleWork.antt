@@ -3,7 +3,7 @@ use Rattle.std.proofs.Common.{ℕ, suc, zero, ◌<◌, [], ◌∷◌, Result, Ok
 use Rattle.std.specs.Result.{IsOk}
 use Rattle.std.specs.Prelude.{slice_index_or}
 use Rattle.std.proofs.lemmas.List.Sorted.{IsPermutation-refl}
-use Rattle.jb_chunk.specs.Standing.{TaskState}
+use Rattle.jb_chunk.specs.TaskState.{TaskState}
 use Rattle.jb_chunk.specs.declared.outcome.Done.{Done}
 use Rattle.jb_repo.specs.declared.events.Event.TheVariants.{Round}
 use Rattle.jb_repo.specs.declared.refused.Refused.{Refused}
@@ -16,16 +16,16 @@ use Rattle.jb_workers.specs.Works.{IsOrderOf, RiseByPartition}
 use Rattle.jb_workers.specs.Round.{AreReports, IsRefusedRound, IsRoundError}
 use Rattle.jb_workers.specs.Lock.{IsRefused}
 
-module _ {T : Type 0} (standing : T → TaskState) (w : Work T) where
-  rising : RiseByPartition standing (w ∷ [])
+module _ {T : Type 0} (task_state : T → TaskState) (w : Work T) where
+  rising : RiseByPartition task_state (w ∷ [])
   rising zero zero d le lt = omega arith
   rising (suc i) zero d le lt = absurd (omega (arith, le))
   rising i (suc j) d le lt = absurd (omega (arith, lt))
 
-  order : IsOrderOf standing (w ∷ []) (w ∷ [])
+  order : IsOrderOf task_state (w ∷ []) (w ∷ [])
   order = record { each = IsPermutation-refl (w ∷ []); rising = λ i j d le lt. rising i j d le lt }
 
-  reported : (done : Result (Done T) RoundError) → MeetsWork standing w done → AreReports standing (w ∷ []) (record { lane = w.lane; done = done } ∷ [])
+  reported : (done : Result (Done T) RoundError) → MeetsWork task_state w done → AreReports task_state (w ∷ []) (record { lane = w.lane; done = done } ∷ [])
   reported done meets = (record { lane = refl; meets = meets }, tt)
 
   none-below : (why : RoundError) (i : ℕ) (d : Report T) → i < 1 → (slice_index_or (record { lane = w.lane; done = Err why } ∷ []) i d).lane < w.lane → IsOk (slice_index_or (record { lane = w.lane; done = Err why } ∷ []) i d).done
@@ -37,7 +37,7 @@ module _ {T : Type 0} (standing : T → TaskState) (w : Work T) where
   all-done done (suc i) d lt = absurd (omega (arith, lt))
 
   -- the work was kept out
-  pub kept-out-error : (why : RoundError) → IsKeptOut standing w why → IsRoundError standing (w ∷ []) why
+  pub kept-out-error : (why : RoundError) → IsKeptOut task_state w why → IsRoundError task_state (w ∷ []) why
   kept-out-error (error.Refused refused) kept = record {
     ordered = w ∷ [];
     order = order;
@@ -56,7 +56,7 @@ module _ {T : Type 0} (standing : T → TaskState) (w : Work T) where
   kept-out-error error.Memory kept = tt
 
   -- the work was done, and Round was refused
-  pub closing-refused : (done : Done T) (refused : Refused) → IsDoneOf standing w done → IsRefused Round refused → IsRefusedRound standing (w ∷ []) refused
+  pub closing-refused : (done : Done T) (refused : Refused) → IsDoneOf task_state w done → IsRefused Round refused → IsRefusedRound task_state (w ∷ []) refused
   closing-refused done refused is why = record {
     ordered = w ∷ [];
     order = order;

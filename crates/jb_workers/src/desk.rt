@@ -66,14 +66,14 @@ impl<L: Ledger> Desk<L> {
         self.stopping.load(Ordering::SeqCst)
     }
 
-    /// The table at some moment. The only error is want of memory for its rows.
+    /// The table at some moment. The only error: out of memory for its rows.
     pub fn status<R: Wait>(&self, rt: &R) -> Result<Snapshot, AllocError>
         ensures { IfOk result (λ snapshot. IsSeen snapshot) }
     {
         self.state.lock(rt).snapshot()
     }
 
-    /// The class of the partition's last Fail, at some moment; none where it has none.
+    /// The class of the partition's last Fail, at some moment, or `None` if it has no Fail.
     pub fn failure<R: Wait>(&self, rt: &R, partition: u32) -> Option<ClassId>
         ensures { IsLastFail partition result }
     {

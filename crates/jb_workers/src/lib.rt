@@ -5,8 +5,8 @@
 //! - `gate`: where a worker comes by before and after its attempt.
 //! - `worker`: what one worker of a round does; `worker::lane_work` is what it is given, and `worker::entry` the event by which
 //!   an attempt enters the history.
-//! - `pool`: workers that are kept between rounds.
-//! - `round`: a round of works, each done in a thread of its own but one; `round::order` puts the works in order,
+//! - `pool`: workers that stay between rounds.
+//! - `round`: a round of works, one done in the caller's thread and each other in its own thread. `round::order` puts the works in order,
 //!   `round::threads` does them by a pool, `round::scoped` makes one for the round, and `round::report` gathers what came of them.
 //! - `laws`: what an attempt's event makes of a row, and that its numbers fit in one.
 #![tactic(auto)]

@@ -1,4 +1,4 @@
-//! Workers that are kept between rounds.
+//! Workers that stay between rounds.
 //!
 //! - `mailbox`: the queue between a caller and a worker, and `signal`: the token by which they wait for each other.
 //! - `caller`: the caller's end of it, and `serving`: what the worker does at the other one.
@@ -39,11 +39,11 @@ impl<L: Ledger> Promise<Share<L>> for GivesPart {
 
 type Handle<L> = PromisedHandle<Share<L>, GivesPart>;
 
-/// The bytes of a worker's stack. The stacks of 63 workers then fit into the 40 MB that the C library keeps for the next threads, which
-/// larger ones, as its own default of 8 MB, don't: each would be asked of the system anew.
+/// The bytes of a worker's stack. The C library keeps 40 MB of stacks for the next threads, and the stacks of 63 workers fit into that.
+/// Larger stacks don't fit, such as the library's default of 8 MB: each would be requested from the system again.
 const WORKER_STACK: usize = 512 * 1024;
 
-/// Workers that are kept between rounds: those that wait for a work, and their threads.
+/// Workers that stay between rounds: those that wait for a work, and their threads.
 ///
 /// `start_pool` starts them in a scope of threads. It can't be dropped: `end` ends and joins them. Contracts see how many wait for a
 /// work.

@@ -30,8 +30,8 @@ use std::sync::ledger::Ledger;
 use std::thread::Threads;
 
 impl<L: Ledger + Send + Sync + 'static> Desk<L> {
-    /// Does each work in a thread of its own, but one in the caller's, and then applies Round; a round of one work starts no
-    /// thread. The attempts come by rising partition; those of works that come so, place by place.
+    /// Does one work in the caller's thread and each other work in its own thread, and then applies Round. A round of one work starts no
+    /// thread. The attempts come by rising partition. If the works come so too, each attempt has the place of its work.
     pub fn run_round<T: PartitionTask + Send + 'static, G: Gate + Sync, R: Threads + Wait + Sync>(
         &self,
         rt: &R,
@@ -39,11 +39,11 @@ impl<L: Ledger + Send + Sync + 'static> Desk<L> {
         gate: &G,
         works: Vec<Work<T>>,
     ) -> Result<Vec<Done<T>>, RoundError>
-        requires { AllCanBegin T.standing works.items }
-        ensures round { IfOk result (λ dones. AreRoundOf T.standing works.items dones.items) }
-        ensures in_order { RiseByPartition T.standing works.items → IfOk result (λ dones. AreDones T.standing works.items dones.items) }
+        requires { AllCanBegin T.task_state works.items }
+        ensures round { IfOk result (λ dones. AreRoundOf T.task_state works.items dones.items) }
+        ensures in_order { RiseByPartition T.task_state works.items → IfOk result (λ dones. AreDones T.task_state works.items dones.items) }
         ensures closed { OnOk result (IsAccepted Round) }
-        ensures error { IfErr result (λ error. IsRoundError T.standing works.items error) }
+        ensures error { IfErr result (λ error. IsRoundError T.task_state works.items error) }
     {
         if works.len() > 1 {
             return in_scope(self, rt, alloc, gate, works);
@@ -56,8 +56,8 @@ impl<L: Ledger + Send + Sync + 'static> Desk<L> {
 }
 
 impl<L: Ledger> Desk<L> {
-    /// As `run_round`, but the pool's workers do the works, one each, but one that the caller's thread does. A round of more works than
-    /// that is refused with `WorkerNotStarted`, and none of them is begun.
+    /// As `run_round`, but the pool's workers do the works, one each, and the caller's thread does one. A round of more works than that is
+    /// refused with `WorkerNotStarted`, and none of its works is started.
     pub fn run_round_by<T: PartitionTask, G: Gate, R: Wait>(
         &self,
         rt: &R,
@@ -66,11 +66,11 @@ impl<L: Ledger> Desk<L> {
         pool: &mut Pool<T, L>,
         works: Vec<Work<T>>,
     ) -> Result<Vec<Done<T>>, RoundError>
-        requires { AllCanBegin T.standing works.items }
-        ensures round { IfOk result (λ dones. AreRoundOf T.standing works.items dones.items) }
-        ensures in_order { RiseByPartition T.standing works.items → IfOk result (λ dones. AreDones T.standing works.items dones.items) }
+        requires { AllCanBegin T.task_state works.items }
+        ensures round { IfOk result (λ dones. AreRoundOf T.task_state works.items dones.items) }
+        ensures in_order { RiseByPartition T.task_state works.items → IfOk result (λ dones. AreDones T.task_state works.items dones.items) }
         ensures closed { OnOk result (IsAccepted Round) }
-        ensures error { IfErr result (λ error. IsRoundError T.standing works.items error) }
+        ensures error { IfErr result (λ error. IsRoundError T.task_state works.items error) }
         ensures enough { OnOk result (length works.items ≤ pool.old + 1) }
         ensures kept { OnOk result (pool.new ≡ pool.old) }
     {
@@ -98,10 +98,10 @@ impl<L: Ledger> Desk<L> {
         gate: &G,
         only: Work<T>,
     ) -> Result<Done<T>, RoundError>
-        requires { CanBegin (T.standing only.task) }
-        ensures done { IfOk result (λ done. IsDoneOf T.standing only done) }
+        requires { CanBegin (T.task_state only.task) }
+        ensures done { IfOk result (λ done. IsDoneOf T.task_state only done) }
         ensures closed { OnOk result (IsAccepted Round) }
-        ensures error { IfErr result (λ error. IsRoundError T.standing (only ∷ []) error) }
+        ensures error { IfErr result (λ error. IsRoundError T.task_state (only ∷ []) error) }
     {
         let Some(share) = self.take_share(rt) else {
             return Err(RoundError::WorkerNotStarted);

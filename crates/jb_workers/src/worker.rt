@@ -20,8 +20,8 @@ use std::alloc::Global;
 use std::sync::Wait;
 use std::sync::ledger::{Ledger, Share};
 
-/// What one worker of a round does: it begins the task's next chunk on the desk, comes by the gate, attempts the chunk,
-/// enters what came of it, and comes by the gate again. Its share of the book is one higher exactly where the Done is
+/// What one worker of a round does. It begins the task's next chunk on the desk, comes by the gate, attempts the chunk,
+/// enters what came of it, and comes by the gate again. Its share of the book is one higher exactly if the Done is
 /// Committed. The desk's lock is held while an event is applied, and not during the attempt.
 ///
 /// The share is a part of the desk's book, as `Desk::take_share` gives it. Where Begin is refused, nothing else is done. Where
@@ -35,10 +35,10 @@ pub fn work<L: Ledger, T: PartitionTask, G: Gate, R: Wait>(
     work: Work<T>,
     share: Share<L>,
 ) -> (Result<Done<T>, RoundError>, Share<L>)
-    requires can { CanBegin (T.standing work.task) }
+    requires can { CanBegin (T.task_state work.task) }
     requires part { share.parts ≡ 1 }
-    ensures done { IfOk result.0 (λ done. IsDoneOf T.standing work done) }
-    ensures kept_out { IfErr result.0 (λ error. IsKeptOut T.standing work error) }
+    ensures done { IfOk result.0 (λ done. IsDoneOf T.task_state work done) }
+    ensures kept_out { IfErr result.0 (λ error. IsKeptOut T.task_state work error) }
     ensures parts { result.1.parts ≡ 1 }
     ensures amount { MatchResult result.0 (λ done. result.1.amount ≡ share.amount + commit_of done.outcome) (λ error. result.1.amount ≡ share.amount) }
 {

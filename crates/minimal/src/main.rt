@@ -1,5 +1,5 @@
-//! The smallest job: the lines of standard input in capitals, without the blank ones, by four threads, stopped after one round and gone
-//! on with.
+//! The smallest job: the lines of standard input in capitals, without the blank ones, by four threads. It stops after one round and
+//! resumes.
 #![tactic(auto)]
 
 ghost use Rattle.minimal.specs.Capitals.{capitals};
@@ -7,7 +7,7 @@ ghost use Rattle.minimal.specs.Capitals.{capitals};
 use jb_base::{ClassId, DEFAULT_RETRY_LIMIT, Name, PackedList, Rules};
 use jb_collect::Status;
 use jb_ready::lines;
-use jb_records::{Earlier, RecordsEnd, RecordsStep, RecordsStepError, run_records};
+use jb_records::{RecordsEnd, RecordsStep, RecordsStepError, StoppedRun, run_records};
 use jb_rows::{Outcome, Row, RowBuilder, RowFunction, Rows};
 use std::alloc::{AllocError, Global};
 use std::io::{self, Read, Write};
@@ -58,7 +58,7 @@ fn lines_of(alloc: Global, text: &[u8]) -> Result<Rows, AllocError> {
     Ok(rows)
 }
 
-/// Runs the step for one round, and goes on from what it saved, as another process could from two files.
+/// Runs the step for one round, and resumes from what it saved, as another process could from two files.
 fn run<R: Threads + Wait + Sync>(
     rt: &R,
     alloc: Global,
@@ -77,7 +77,7 @@ fn run<R: Threads + Wait + Sync>(
     }
     let saved = stopped.saved_text(alloc, &step.id)?;
     let results = stopped.all_results(alloc)?;
-    let earlier = Earlier {
+    let earlier = StoppedRun {
         saved: saved.as_bytes(),
         results: &results,
     };

@@ -3,7 +3,7 @@ use Rattle.std.specs.Prelude.{ℕ, List, [], ◌∷◌, Option, None, codes, map
 use Rattle.sqlite_wal.specs.Recovery.{Image}
 use Rattle.jb_csv_job.specs.Done.{HasSkipped, IsByRules, IsDoneSoFar, IsJobDone}
 use Rattle.jb_csv_job.specs.Job.{JobRecord}
-use Rattle.jb_csv_job.specs.Kept.{IsTakenUp, LeavesSlice}
+use Rattle.jb_csv_job.specs.SliceFiles.{CanResumeJob, LeavesSlice}
 use Rattle.jb_csv_job.specs.declared.asked.Asked.{Asked}
 use Rattle.jb_rows.specs.declared.header.Header.TheVariants as header
 use Rattle.jb_rows.specs.declared.input.Input.TheVariants as input
@@ -47,7 +47,7 @@ payroll asked = record {
 
 -- IT IS TAKEN UP over the time sheets in these bytes: what the two files of each slice hold is a payroll so far, or nothing
 abbrev pub IsPayrollTakenUp : Asked → Functions → (text : Option (List ℕ)) → (log db : ℕ → List ℕ) → Type 0
-IsPayrollTakenUp asked functions text log db = IsTakenUp (payroll asked) functions text log db
+IsPayrollTakenUp asked functions text log db = CanResumeJob (payroll asked) functions text log db
 
 -- WHAT A CRASH LEAVES of the files of this slice: a payroll so far
 abbrev pub LeavesPayroll : Asked → Functions → (text : Option (List ℕ)) → (slice : ℕ) → Image → Type 0

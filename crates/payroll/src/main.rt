@@ -1,4 +1,4 @@
-//! A payroll: time sheets in, pay slips out, each once, through any number of kills. docs/ARTIFACTS.md walks through it.
+//! A payroll: time sheets in, pay slips out, each once, through any number of kills. docs/YOUR-JOB.md walks through it.
 //!
 //! `payroll [OPTIONS] FOLDER` reads time sheets, lines `NAME,HOURS,RATE`, on standard input, and writes pay slips, lines `NAME,PAY`, on
 //! standard output. Whatever ends it, called again with the same sheets it resumes from the last checkpoint in FOLDER.
@@ -17,7 +17,7 @@ mod sheet;
 use clerk::{CLASSES, Clerk};
 use jb_base::DEFAULT_RETRY_LIMIT;
 use jb_csv_job::{
-    Asked, CsvJob, Drops, Failure, Host, JobEnd, Keeper, Output, Request, Stored, asked_of,
+    Asked, CsvJob, CsvJobError, Drops, Host, JobEnd, Keeper, Output, Request, Stored, asked_of,
     exit_code, ready_folder, run_csv_job,
 };
 use jb_rows::RowsOptions;
@@ -53,7 +53,7 @@ fn paid<
     K: Keeper,
     R: Read + Drop,
     W: Write + Drop,
->(rt: &T, asked: &Asked, from: R, to: W, keeper: &mut K) -> Result<(JobEnd, W), Failure>
+>(rt: &T, asked: &Asked, from: R, to: W, keeper: &mut K) -> Result<(JobEnd, W), CsvJobError>
     // With status 0 the pay slips of all time sheets are written, whatever earlier calls left in the files.
     ensures all { IsTrue (K.are_clean keeper.new) → (functions : Functions) → IsPayrollTakenUp asked.now functions (R.remaining from) H.log H.db
         → IfOk result (λ r. r.0.status ≡ 0 → IsPaid asked.now (R.remaining from) (W.contents to) (W.contents r.1)) }
@@ -83,7 +83,7 @@ fn paid<
 fn answer<T: Threads + Wait + Clock + Eprint + Host + Copy + Send + Sync + 'static>(
     rt: &T,
     asked: &Asked,
-) -> Result<JobEnd, Failure> {
+) -> Result<JobEnd, CsvJobError> {
     let host = rt.host();
     ready_folder(host, asked.folder.as_str())?;
     let to = Output::open(host, asked.output.as_deref())?;

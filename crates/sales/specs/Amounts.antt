@@ -28,7 +28,7 @@ abbrev pub amount_at : (amounts : List Amount) → (name : List ℕ) → Option 
 amount_at [] name = None
 amount_at (amount ∷ amounts) name = if bytes_eq name amount.0 then Some amount.1 else amount_at amounts name
 
--- the amounts, with this one for the name: in its place, or behind the others
+-- the amounts, with this one for the name: in its place, or after the others
 abbrev pub with_amount : (amounts : List Amount) → (name : List ℕ) → (cents : ℕ) → List Amount
 with_amount [] name cents = (name, cents) ∷ []
 with_amount (amount ∷ amounts) name cents = if bytes_eq name amount.0 then (amount.0, cents) ∷ amounts else amount ∷ with_amount amounts name cents

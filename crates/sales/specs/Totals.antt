@@ -10,7 +10,7 @@ use Rattle.sales.specs.declared.sums.SumsError.TheVariants as error
 abbrev pub total_in : (amounts : List Amount) → (customer : List ℕ) → ℕ
 total_in amounts customer = sum_by (λ amount. if bytes_eq amount.0 customer then amount.1 else 0) amounts
 
--- the customers, with this one behind them if it is none of them
+-- the customers, with this one after them if it is none of them
 abbrev pub with_customer : (customers : List (List ℕ)) → (customer : List ℕ) → List (List ℕ)
 with_customer [] customer = customer ∷ []
 with_customer (first ∷ customers) customer = if bytes_eq customer first then first ∷ customers else first ∷ with_customer customers customer

@@ -43,7 +43,7 @@ impl Amounts {
         self.by_name.get(name).copied()
     }
 
-    /// Gives a name this amount, in the place of the one that it had. A new name is behind the others.
+    /// Gives a name this amount, in the place of the one that it had. A new name is after the others.
     pub fn put(&mut self, name: &[u8], cents: u64) -> Result<(), AllocError>
         ensures { OnOk result (self.new ≡ with_amount self.old name.now cents) }
     {

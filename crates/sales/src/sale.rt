@@ -99,12 +99,12 @@ fn too_large() -> ClassId
     ClassId::new(2)
 }
 
-/// What is done to a sale: it is looked up what it costs.
+/// What is done to a sale: its cost is looked up.
 #[derive(Drop)]
 pub struct Pricing {
     /// The cents of one of each item. All threads share it.
     pub prices: Amounts,
-    /// Where the JSON value of a line is kept while it is looked at.
+    /// Where the JSON value of a line is stored while it is looked at.
     pub alloc: Global,
 }
 

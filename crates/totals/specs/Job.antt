@@ -3,7 +3,7 @@ use Rattle.std.specs.Prelude.{ℕ, ◌≡◌, List, [], ◌∷◌, IfSome, None,
 use Rattle.sqlite_wal.specs.Recovery.{Image}
 use Rattle.jb_csv_job.specs.Done.{IsByRules}
 use Rattle.jb_csv_job.specs.Job.{JobRecord}
-use Rattle.jb_csv_job.specs.Kept.{IsTakenUp, LeavesSlice}
+use Rattle.jb_csv_job.specs.SliceFiles.{CanResumeJob, LeavesSlice}
 use Rattle.jb_csv_job.specs.Tasks.{given_by}
 use Rattle.jb_csv_job.specs.declared.asked.Asked.{Asked}
 use Rattle.jb_rows.specs.Answers.{all_results}
@@ -50,7 +50,7 @@ totals_job prices stamp asked = record {
 
 -- IT IS TAKEN UP over the sales in these bytes: what the two files of each slice hold is this job so far, or nothing
 abbrev pub AreSalesTakenUp : (prices : List Amount) → (stamp : List ℕ) → Asked → Functions → (text : Option (List ℕ)) → (log db : ℕ → List ℕ) → Type 0
-AreSalesTakenUp prices stamp asked functions text log db = IsTakenUp (totals_job prices stamp asked) functions text log db
+AreSalesTakenUp prices stamp asked functions text log db = CanResumeJob (totals_job prices stamp asked) functions text log db
 
 -- what a crash leaves of the files of this slice: the job so far
 abbrev pub LeavesSales : (prices : List Amount) → (stamp : List ℕ) → Asked → Functions → (text : Option (List ℕ)) → (slice : ℕ) → Image → Type 0

@@ -1,7 +1,7 @@
 //! Who takes the results of slices, and adds them up.
 
 ghost use Rattle.std.specs.Prelude.{◌≡◌, List, [], None, IfOk};
-ghost use Rattle.jb_csv_job.specs.declared.failure.Failure.TheVariants.{Memory};
+ghost use Rattle.jb_csv_job.specs.declared.failure.CsvJobError.TheVariants.{Memory};
 ghost use Rattle.jb_rows.specs.Answers.{all_results};
 ghost use Rattle.jb_rows.specs.Fields.{Fields};
 ghost use Rattle.sales.specs.Amounts.{Amount};
@@ -10,7 +10,7 @@ ghost use Rattle.sales.specs.Totals.{AreTotals, AreTotalsSoFar};
 ghost use Rattle.totals.specs.Adding.{HasAdded, nothing-added};
 
 use jb_base::PackedList;
-use jb_csv_job::{Failure, Sink};
+use jb_csv_job::{CsvJobError, Sink};
 use jb_rows::Rows;
 use sales::{SumsError, Totals};
 use std::alloc::Global;
@@ -51,13 +51,13 @@ impl Sink for Adding {
 
     ghost may_refuse = { λ failure. failure ≡ Memory };
 
-    fn take(&mut self, results: &PackedList) -> Result<(), Failure> {
+    fn take(&mut self, results: &PackedList) -> Result<(), CsvJobError> {
         if self.refusal.is_some() {
             return Ok(());
         }
         match self.totals.add(results) {
             Ok(()) => Ok(()),
-            Err(SumsError::Memory) => Err(Failure::Memory),
+            Err(SumsError::Memory) => Err(CsvJobError::Memory),
             Err(error) => {
                 self.refusal = Some(error);
                 Ok(())

@@ -1,6 +1,6 @@
 //! Why there is no answer.
 
-use jb_csv_job::Failure;
+use jb_csv_job::CsvJobError;
 use jb_rows::RowsError;
 use sales::{PricesError, SumsError};
 use std::alloc::AllocError;
@@ -14,7 +14,7 @@ pub enum TotalsError {
     Prices(PricesError),
     /// The job has no answer.
     #[error("{0}")]
-    Job(Failure),
+    Job(CsvJobError),
     /// There are no totals.
     #[error("Totals: {0}")]
     Sums(SumsError),
@@ -22,35 +22,35 @@ pub enum TotalsError {
 
 impl From<AllocError> for TotalsError {
     fn from(_: AllocError) -> TotalsError {
-        TotalsError::Job(Failure::Memory)
+        TotalsError::Job(CsvJobError::Memory)
     }
 }
 
 impl From<PricesError> for TotalsError {
     fn from(error: PricesError) -> TotalsError {
         match error {
-            PricesError::Memory => TotalsError::Job(Failure::Memory),
+            PricesError::Memory => TotalsError::Job(CsvJobError::Memory),
             error => TotalsError::Prices(error),
         }
     }
 }
 
-impl From<Failure> for TotalsError {
-    fn from(error: Failure) -> TotalsError {
+impl From<CsvJobError> for TotalsError {
+    fn from(error: CsvJobError) -> TotalsError {
         TotalsError::Job(error)
     }
 }
 
 impl From<RowsError> for TotalsError {
     fn from(error: RowsError) -> TotalsError {
-        TotalsError::Job(Failure::Rows(error))
+        TotalsError::Job(CsvJobError::Rows(error))
     }
 }
 
 impl From<SumsError> for TotalsError {
     fn from(error: SumsError) -> TotalsError {
         match error {
-            SumsError::Memory => TotalsError::Job(Failure::Memory),
+            SumsError::Memory => TotalsError::Job(CsvJobError::Memory),
             error => TotalsError::Sums(error),
         }
     }

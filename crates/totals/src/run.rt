@@ -8,7 +8,7 @@ ghost use Rattle.totals.specs.Job.{AreAdded, AreSalesTakenUp, AreTotalsOf, IsTot
 use crate::adding::Adding;
 use crate::failure::TotalsError;
 use jb_base::DEFAULT_RETRY_LIMIT;
-use jb_csv_job::{Asked, CsvJob, Failure, Host, JobEnd, Keeper, Stored, run_slices};
+use jb_csv_job::{Asked, CsvJob, CsvJobError, Host, JobEnd, Keeper, Stored, run_slices};
 use jb_rows::{Rows, RowsOptions, RowsReader};
 use sales::{Amounts, CLASSES, Pricing};
 use std::alloc::Global;
@@ -48,7 +48,7 @@ fn added<
     stamp: &str,
     from: R,
     keeper: &mut K,
-) -> Result<(JobEnd, Adding), Failure>
+) -> Result<(JobEnd, Adding), CsvJobError>
     ensures all { IsTrue (K.are_clean keeper.new) → (functions : Functions) → AreSalesTakenUp prices stamp.now asked.now functions (R.remaining from) H.log H.db
         → IfOk result (λ r. r.0.status ≡ 0 → AreAdded prices asked.now (R.remaining from) r.1) }
     ensures by_rules { IsTrue (K.are_clean keeper.new) → (functions : Functions) → AreSalesTakenUp prices stamp.now asked.now functions (R.remaining from) H.log H.db

@@ -1,17 +1,17 @@
 //! Reads and writes of `perform` that fail, each in turn, that are short, or that are interrupted.
 //!
 //! The streams give and take one byte at each call, and where calls are interrupted two and seven as well. In the last turn of each
-//! loop no call fails, so that such short reads and writes are shown to change nothing. A flush is a call, too: each text that is
-//! written has one behind it.
+//! loop no call fails, so that such short reads and writes are shown to change nothing. A flush is a call, too: it follows each text
+//! that is written.
 //!
 //! - Reads: `run`, `restart`, `plan` and `check`, on a document that is answered. Status 4, no further read, nothing on standard
 //!   output, and `stream failed` on standard error.
-//! - Writes and the flush on standard output: the same words and documents, and `--version`. Status 4, no further call there, the
+//! - Writes and the flush on standard output: the same subcommands and documents, and `--version`. Status 4, no further call there, the
 //!   front of the answer, `stream failed`, and as many reads as in a run where no call fails.
-//! - Writes and the flush on standard error: a document that each of the four words refuses, a read that failed, and a wrong word.
+//! - Writes and the flush on standard error: a document that each of the four subcommands refuses, a read that failed, a wrong subcommand.
 //!   Status 4, no further call there, the front of the line, nothing on standard output, and as many reads as where no call fails.
-//! - Interrupted calls: every other call of all three streams where there is an answer, and every other write on standard error
-//!   where there is none. Status and texts are those of a run where none is interrupted.
+//! - Interrupted calls: every other call of all three streams if there is an answer, else every other write on standard error.
+//!   Status and texts are those of a run where none is interrupted.
 //!
 //! The help isn't among the answers.
 
@@ -51,7 +51,7 @@ const ROWS: [Row; 4] = [
     ),
 ];
 
-/// A word, its document, the read that fails (0: none), the number of reads, what stands on standard error, and the status.
+/// A subcommand, its document, the read that fails (0: none), the number of reads, the text on standard error, and the status.
 type Fault = (&'static str, &'static str, usize, usize, &'static str, u8);
 
 const FAULTS: [Fault; 6] = [
@@ -105,8 +105,8 @@ const NOTHING: Fails = Fails {
     fault: 0,
 };
 
-/// The front of a text that stands there where a call of this number fails (0: none), of those that write it byte by byte and then flush
-/// the stream; and how many calls are made. An empty text takes none.
+/// The front of a text that is written if the call of this number fails (0: none), and how many calls are made. The calls write it byte
+/// by byte and then flush the stream. An empty text takes none.
 fn front(text: &str, fails_at: usize) -> (&[u8], usize) {
     let bytes = text.as_bytes();
     if bytes.is_empty() {
@@ -119,8 +119,8 @@ fn front(text: &str, fails_at: usize) -> (&[u8], usize) {
     }
 }
 
-/// Whether a run of the word on the document, with such failing calls, reads so often, and comes to this status and to the fronts of
-/// these texts, with no call after one that fails.
+/// Whether a run of the subcommand on the document, with such failing calls, makes so many reads and ends with this status. It must
+/// also leave the fronts of these texts, and make no call after one that fails.
 fn comes_to<R: Threads + Wait + Sync>(
     rt: &R,
     alloc: Global,
@@ -236,7 +236,7 @@ fn is_whole<R: Threads + Wait + Sync>(rt: &R, alloc: Global, row: &Row, most: us
         && faults.stream().bytes().is_empty()
 }
 
-// Every other read and write is interrupted: each is made again, and nothing is lost or told twice.
+// Every other read and write is interrupted: each is made again, and nothing is lost or written twice.
 #[test]
 fn interrupted_calls(rt: HostRuntime) {
     for row in &ROWS {
@@ -246,8 +246,8 @@ fn interrupted_calls(rt: HostRuntime) {
     }
 }
 
-/// Whether the fault is told on a stream of which every other call is interrupted and the others take so many bytes at most, with its
-/// status.
+/// Whether the fault is reported with its status on a stream of which every other call is interrupted and the others take so many bytes
+/// at most.
 fn is_told<R: Threads + Wait + Sync>(rt: &R, alloc: Global, fault: &Fault, most: usize) -> bool {
     let (word, document, read_that_fails, _, line, status) = *fault;
     let mut reader = FailingReader::new(document.as_bytes(), 1, read_that_fails);
@@ -258,7 +258,7 @@ fn is_told<R: Threads + Wait + Sync>(rt: &R, alloc: Global, fault: &Fault, most:
     code == status && written.is_empty() && faults.stream().bytes() == line.as_bytes()
 }
 
-// Every other write on standard error is interrupted, and the others are short: the line is whole and stands there once.
+// Every other write on standard error is interrupted, and the others are short: the line is whole and is there once.
 #[test]
 fn interrupted_faults(rt: HostRuntime) {
     for fault in &FAULTS {
@@ -268,7 +268,7 @@ fn interrupted_faults(rt: HostRuntime) {
     }
 }
 
-/// The document behind so many blanks.
+/// The document after so many blanks.
 fn behind_blanks(alloc: Global, document: &str, blanks: usize) -> Result<Vec<u8>, AllocError> {
     let mut bytes = Vec::new(alloc);
     bytes.resize(blanks, b' ')?;

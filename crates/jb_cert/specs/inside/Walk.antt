@@ -1,10 +1,10 @@
--- The first fault as a walk over a plan finds it, for the checker's own loops; Faults has the definition.
+-- The first fault as a walk over a plan finds it, for the checker's own loops. Faults has the definition.
 use Rattle.std.specs.Prelude.{ℕ, List, [], ◌∷◌, ◌++◌, Option, Some, None}
 use Rattle.jb_cert.specs.declared.plans.Slot.{Slot}
 use Rattle.jb_cert.specs.declared.plans.PlanFault.{PlanFault}
 use Rattle.jb_cert.specs.Faults.{slots_in_all, slot_fault, missing_fault}
 
--- what is wrong with a slot, where so many slots of each partition ran before its round, and these stand before it there
+-- what is wrong with a slot, if so many slots of each partition ran in earlier rounds and these are before it in its own
 abbrev pub fault_here : List ℕ → ℕ → (ℕ → ℕ) → List Slot → Slot → Option PlanFault
 fault_here counts threads ran here slot =
     slot_fault counts threads (record { slot = slot; ran = ran slot.partition; before = here })

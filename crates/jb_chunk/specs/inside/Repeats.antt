@@ -1,4 +1,4 @@
--- What the functions keep that repeat a call in place, and what a block is between two of its repeats.
+-- What holds in the functions that repeat a call in place, and what a block is between two of its repeats.
 use Rattle.std.specs.Prelude.{ℕ, zero, suc, ◌≡◌, ◌+◌, ◌≤◌, ◌<◌, ◌⊎◌, Bool, true, false, List, ◌++◌, length, take, option_to_list, is_some, Option, Some, None, Result, Ok, Err, IfOk}
 use Rattle.jb_base.specs.declared.class.ClassId.{ClassId}
 use Rattle.jb_base.specs.declared.artifact_error.ArtifactError.{ArtifactError}
@@ -17,13 +17,13 @@ use Rattle.jb_chunk.specs.declared.entry.EntryKind.{EntryKind}
 use Rattle.jb_chunk.specs.declared.gather.Gathered.{Gathered}
 use Rattle.jb_chunk.specs.declared.gather.Gathered.TheVariants.{Settled, Whole}
 use Rattle.jb_chunk.specs.Attempt.{all_repeated, settled_at, IsRestored, block_of}
-use Rattle.jb_chunk.specs.Standing.{TaskState}
+use Rattle.jb_chunk.specs.TaskState.{TaskState}
 use Rattle.jb_chunk.specs.Block.{entry, repeats, is_skip, is_again, choice_at, skips_before, settling, passed}
 use Rattle.jb_chunk.specs.Entries.{Entry, fault_in, text_in, numbered}
 use Rattle.jb_chunk.specs.inside.Gathering.{Yield, yield_of, entry_with, IsTally, passed_one}
 use Rattle.jb_chunk.specs.inside.TriedChunk.{IsFinish}
 
--- an answer, by what its value stands for
+-- an answer, by what its value means
 abbrev pub seen_as : {A B : Type 0} → (A → B) → Result A ArtifactError → Result B ArtifactError
 seen_as f (Ok x) = Ok (f x)
 seen_as f (Err e) = Err e
@@ -34,8 +34,8 @@ fault_answered (Ok x) = None
 fault_answered (Err (Fault class)) = Some class
 fault_answered (Err Memory) = None
 
--- A call that may be repeated in place, by how often it was: its fault, and the artifacts before it, behind it, and left by it
--- where it found no memory.
+-- A call that may be repeated in place, by how often it was: its fault, and the artifacts before it and after it. Last the
+-- artifacts that it left, if it found no memory.
 pub record Call : Type 0 where
   pub fault : ℕ → Option ClassId
   pub before : ℕ → ArtifactsMeaning
@@ -53,7 +53,7 @@ pub record IsCalling (rules : RulesRecord) (skips : ℕ) (row : Row) (call : Cal
   pub asked : AreRepeats rules skips row call.fault again
   pub passes : left ≡ call.before again
 
--- the call was made, with repeats, and isn't to be repeated any more; where it succeeds, it answers this value
+-- the call was made, with repeats, and isn't to be repeated any more; if it succeeds, it answers this value
 pub record IsCalled {A : Type 0} (rules : RulesRecord) (skips : ℕ) (row : Row) (call : Call) (value : A) (answer : Result A ArtifactError) (now : Row) (left : ArtifactsMeaning) : Type 0 where
   pub again : ℕ
   pub grown : now ≡ repeated_row row again
@@ -79,7 +79,7 @@ called w k reads processes = record w {
   processor = record w.processor { faults = called_times processes w.processor.faults k };
 }
 
--- the read of record `k`, at which the reader stands
+-- the read of record `k`, where the reader is
 abbrev pub read_call : ArtifactsMeaning → (k : ℕ) → Call
 read_call w k = record {
   fault = next_fault w.reader.faults k;
@@ -104,7 +104,7 @@ process_call w k = record {
 abbrev pub IsProcessed : RulesRecord → (skips : ℕ) → Row → ArtifactsMeaning → (k : ℕ) → (item : List ℕ) → Result Bool ArtifactError → (now : Row) → (left : ArtifactsMeaning) → Type 0
 IsProcessed rules skips row w k item answer now left = IsCalled rules skips row (process_call w k) (is_some (w.processor.answer k item)) answer now left
 
--- the results behind such a call: the item's is put behind the others, where the call succeeds and there is one
+-- the results after such a call: the item's is put after the others, if the call succeeds and there is one
 abbrev pub results_behind : Result Bool ArtifactError → (k : ℕ) → Option (List ℕ) → Numbered → Numbered
 results_behind (Ok found) k text results = results ++ option_to_list (numbered k text)
 results_behind (Err e) k text results = results
@@ -142,7 +142,7 @@ pub record IsDone (rules : RulesRecord) (skips : ℕ) (row : Row) (w : Artifacts
   pub last : repeats rules now (fault_in e) skips ≡ false
   pub passes : left ≡ passed_one (called w k reads processes) k
 
--- so it was, its entry is of this kind, and its result, if it has one, is put behind the others
+-- so it was, its entry is of this kind, and its result, if it has one, is put after the others
 pub record IsEntered (rules : RulesRecord) (skips : ℕ) (row : Row) (w : ArtifactsMeaning) (k : ℕ) (before : Numbered) (kind : EntryKind) (now : Row) (left : ArtifactsMeaning) (after : Numbered) : Type 0 where
   pub answer : Option (List ℕ)
   pub done : IsDone rules skips row w k (entry_with kind answer) now left
@@ -174,7 +174,7 @@ IsWhole t tally now left =
     × IsTally u.artifacts u.row.at (block_of u).hi tally
     × (left ≡ passed u.artifacts u.row.at (block_of u).hi)
 
--- the records of a block were read and processed: a fault settled it, which is neither skipped nor repeated, or there is none
+-- the records of a block were read and processed: a fault settled it, which is neither skipped nor repeated, or no fault did
 abbrev pub IsGathered : TaskState → Gathered → (found : Numbered) → (now : Row) → (left : ArtifactsMeaning) → Type 0
 IsGathered t (Settled number class choice) found now left =
     (u : TaskState) × IsRepeated t u × (now ≡ u.row)

@@ -13,7 +13,7 @@ use Rattle.jb_rules.specs.Counts.{IsDelta}
 use Rattle.jb_chunk.specs.Attempt.{block_of, settled_at, counts_with, end_by, end_of, row_after, artifacts_used}
 use Rattle.jb_chunk.specs.inside.Gathering.{Yield}
 use Rattle.jb_chunk.specs.Block.{choice_at, MayBeUsed}
-use Rattle.jb_chunk.specs.Standing.{TaskState, at_checkpoint}
+use Rattle.jb_chunk.specs.TaskState.{TaskState, at_checkpoint}
 
 -- the task of this partition with this row, these rules, this item count and these artifacts
 abbrev pub task_at : (partition : ℕ) → Row → RulesRecord → (item_count : ℕ) → ArtifactsMeaning → TaskState
@@ -23,7 +23,7 @@ task_at partition row rules item_count w = record { partition = partition; row =
 abbrev pub OfTask : RulesRecord → Row → (item_count : ℕ) → ArtifactsMeaning → (TaskState → Type 0) → Type 0
 OfTask rules row item_count w P = (partition : ℕ) → P (task_at partition row rules item_count w)
 
--- a chunk of so many records found its memory, and where it is committed adds what it may to the counts
+-- a chunk of so many records found its memory, and if it is committed adds what it may to the counts
 abbrev pub HasDelta : (records : ℕ) → Outcome → Type 0
 HasDelta records (Committed delta) = IsDelta records delta
 HasDelta records NoMemory = ⊥

@@ -1,5 +1,5 @@
--- Trees that borrow their text, as `json` makes them: no text in one has a string of its own. What they are as data, which
--- is what the text is, as `serde_json` reads it.
+-- Trees that borrow their text, as `json` makes them: no text in one is a string by itself. What they are as data is what
+-- the text is, as `serde_json` reads it.
 use Rattle.std.specs.Prelude.{◌≡◌, ℕ, ◌≤◌, ◌&&◌, Bool, true, List, [], ◌∷◌, Option, Some, None, is_some}
 use Rattle.json.specs.Json as json
 use Rattle.json.specs.Json.{Json}

@@ -1,4 +1,4 @@
--- The document of `restart` behind its job, as code reads it: by the parts that were taken out of the tree.
+-- The document of `restart` after its job, as code reads it: by the parts that were taken out of the tree.
 use Rattle.std.specs.Prelude.{Option, Result, Ok}
 use Rattle.serde_json.specs.Data.{Data}
 use Rattle.jb_job.specs.declared.field.Field.TheVariants as field

@@ -5,8 +5,8 @@ ghost use Rattle.jb_cert.specs.Load.{IsWithinLimits};
 
 use std::marker::Model;
 
-/// Counts of chunks, one for each partition, and a number of threads, within the limits that planning and checking
-/// ask for: at most 4,096 counts, at most 10,000,000 chunks in all, and 1 to 64 threads. The limits are this project's
+/// Counts of chunks, one for each partition, and a number of threads. Their limits are those of planning and checking: at most
+/// 4,096 counts, at most 10,000,000 chunks in all, and 1 to 64 threads. The limits are this project's
 /// own choice.
 #[derive(Drop)]
 pub struct ChunkLoad {

@@ -71,7 +71,7 @@ fn of_parts(
     })
 }
 
-/// The document that the tree stands for, or its first fault.
+/// The document that the tree holds, or its first fault.
 #[tactic(auto, unfolding(crate::specs::RestartDocument::restart_at, jb_job::specs::Reading::required))]
 fn document_of(alloc: Global, tree: Borrowed<'_>) -> Result<RestartDocument, RestartFault>
     requires { IsReadable (value_view tree) }
@@ -84,8 +84,8 @@ fn document_of(alloc: Global, tree: Borrowed<'_>) -> Result<RestartDocument, Res
     of_parts(alloc, job, fields.given, fields.resume)
 }
 
-/// The document that the bytes stand for, or their first fault: `NotJson` where they are no JSON text. The bytes are let
-/// go once they are read.
+/// The document that the bytes hold, or their first fault: `NotJson` if they are no JSON text. The bytes are freed
+/// once they are read.
 pub fn read_restart(alloc: Global, bytes: Vec<u8>) -> Result<RestartDocument, RestartFault>
     ensures document { IfOk result (IsRestartText bytes.items) }
     ensures refused { IfErr result (λ fault. IsRefusedRestart fault bytes.items) }

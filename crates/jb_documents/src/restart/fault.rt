@@ -8,7 +8,7 @@ use thiserror::Error;
 /// The first fault of a document of `restart`.
 #[derive(Clone, Copy, Debug, PartialEq, Eq, Error)]
 pub enum RestartFault {
-    /// A fault of the text or of a field, or want of memory.
+    /// A fault of the text or of a field, or out of memory.
     Document(JobError),
     /// What of the saved rows is refused.
     Saved(SavedPlace),

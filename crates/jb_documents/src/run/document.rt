@@ -97,7 +97,7 @@ fn take_parts<'a>(tree: Borrowed<'a>) -> (Option<Borrowed<'a>>, Option<Borrowed<
     (job, given)
 }
 
-/// The document that the tree stands for, or its first fault.
+/// The document that the tree holds, or its first fault.
 #[tactic(auto, unfolding(crate::specs::RunDocument::document_at, jb_job::specs::Reading::required))]
 fn document_of(alloc: Global, tree: Borrowed<'_>) -> Result<Document, JobError>
     requires { IsReadable (value_view tree) }
@@ -113,8 +113,8 @@ fn document_of(alloc: Global, tree: Borrowed<'_>) -> Result<Document, JobError>
     })
 }
 
-/// The document that the bytes stand for, or their first fault: `NotJson` where they are no JSON text. The bytes are let
-/// go once they are read.
+/// The document that the bytes hold, or their first fault: `NotJson` if they are no JSON text. The bytes are freed
+/// once they are read.
 pub fn read_document(alloc: Global, bytes: Vec<u8>) -> Result<Document, JobError>
     ensures document { IfOk result (IsDocument bytes.items) }
     ensures refused { IfErr result (λ fault. IsRefusedDocument fault bytes.items) }

@@ -115,7 +115,7 @@ fn take_parts<'a>(tree: Borrowed<'a>) -> Parts<'a>
     }
 }
 
-/// The data of one of the job's steps that the tree stands for, or its first fault. The tree's records are let go as soon
+/// The data of one of the job's steps that the tree holds, or its first fault. The tree's records are freed as soon
 /// as they are packed.
 #[tactic(auto, unfolding(crate::specs::StepFields::data_at, jb_job::specs::Reading::required, jb_job::specs::Reading::optional))]
 pub fn step_data(alloc: Global, job: &Job, tree: Borrowed<'_>) -> Result<StepData, JobError>

@@ -29,7 +29,7 @@ fn fault_plan(alloc: Global, kind: &FaultKind) -> Result<FaultPlan, AllocError>
     }
 }
 
-/// The faults for records of the range: they stand together.
+/// The faults for records of the range: they are next to each other.
 fn faults_in(faults: &[PlannedFault], range: Range) -> &[PlannedFault]
     requires { AreFaultsInOrder faults.now }
     ensures { result.now ≡ filter (is_of_range range) faults.now }

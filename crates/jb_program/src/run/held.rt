@@ -10,7 +10,7 @@ use jb_step::Saved;
 use std::alloc::{AllocError, Global};
 
 /// The rows of the run before, if there was one, and its outputs, unless the step's plan overrides them.
-pub fn taken(alloc: Global, resume: Option<Resume>, replace: bool) -> (Option<Saved>, Outputs)
+pub fn saved_state(alloc: Global, resume: Option<Resume>, replace: bool) -> (Option<Saved>, Outputs)
     ensures saved { result.0 ≡ rows_saved resume }
     ensures outputs { result.1 ≡ outputs_of (gone_on_from replace resume) }
 {

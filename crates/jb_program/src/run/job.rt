@@ -9,7 +9,7 @@ ghost use Rattle.jb_program.specs.JobRun.{AreStepRuns, IsJobRun, IsRefusedAtStep
 ghost use Rattle.jb_program.specs.StepRun.{AreHeld};
 
 use crate::run::step::run_job_step;
-use crate::streams::Failure;
+use crate::streams::ProgramError;
 use jb_collect::Status;
 use jb_documents::{Document, RestartDocument, Resume, StepData};
 use jb_job::Step;
@@ -18,7 +18,7 @@ use std::alloc::Global;
 use std::sync::Wait;
 use std::thread::Threads;
 
-/// Runs the steps, up to the first that isn't completed, and writes their reports. The first goes on from what the run before
+/// Runs the steps, up to the first that isn't completed, and writes their reports. The first resumes from what the run before
 /// left, if there was one. The status is that of the last step that ran.
 fn run_steps<T: Threads + Wait + Sync>(
     rt: &T,
@@ -28,7 +28,7 @@ fn run_steps<T: Threads + Wait + Sync>(
     round_limit: Option<u64>,
     resume: Option<Resume>,
     text: &mut StepsText,
-) -> Result<Status, Failure>
+) -> Result<Status, ProgramError>
     requires held { IfSome resume AreHeld }
     ensures ran { IfOk result (λ status. (reports : List StepReport) × AreStepRuns (zip steps.now supplies.items) round_limit resume reports
         × (status ≡ status_in (slice_get reports (length reports - 1))) × (text.new ≡ text.old ++ flat_map step_tokens reports)) }
@@ -47,7 +47,7 @@ fn run_steps<T: Threads + Wait + Sync>(
     }
 }
 
-/// Runs the steps from the one on whose rows were saved, which goes on from them.
+/// Runs the steps from the one whose rows were saved. That step resumes from them.
 fn run_later_steps<T: Threads + Wait + Sync>(
     rt: &T,
     alloc: Global,
@@ -56,7 +56,7 @@ fn run_later_steps<T: Threads + Wait + Sync>(
     round_limit: Option<u64>,
     resume: Resume,
     text: &mut StepsText,
-) -> Result<Status, Failure>
+) -> Result<Status, ProgramError>
     requires held { AreHeld resume }
     ensures ran { IfOk result (λ status. (reports : List StepReport)
         × AreStepRuns (drop (earlier resume.saved.step steps.now) (zip steps.now supplies.items)) round_limit (Some resume) reports
@@ -77,14 +77,14 @@ fn run_later_steps<T: Threads + Wait + Sync>(
     run_later_steps(rt, alloc, rest, supplies, round_limit, resume, text)
 }
 
-/// Runs the document's job, each step in no more rounds than the limit, and gives the job's status and its report. The failure is
-/// want of memory or of a worker, a repository that isn't the step's own, or the first refusal of a step that comes to its turn.
+/// Runs the document's job, each step in no more rounds than the limit, and gives the job's status and its report. It fails without
+/// memory or a worker, if a repository isn't the step's own, or by the first refusal of a step that comes to its turn.
 pub fn run_job<T: Threads + Wait + Sync>(
     rt: &T,
     alloc: Global,
     document: Document,
     round_limit: Option<u64>,
-) -> Result<(Status, ReportText), Failure>
+) -> Result<(Status, ReportText), ProgramError>
     ensures ran { IfOk result (λ ran. (report : Report) × IsJobRun document round_limit report × (ran.0 ≡ report.status) × (ran.1 ≡ report_text report)) }
     ensures why { IfErr result (λ e. IsBreakOff e ⊎ IsRefusedAtStep (zip document.job.steps document.step_data) round_limit None e) }
 {
@@ -113,7 +113,7 @@ pub fn restart_job<T: Threads + Wait + Sync>(
     alloc: Global,
     document: RestartDocument,
     round_limit: Option<u64>,
-) -> Result<(Status, ReportText), Failure>
+) -> Result<(Status, ReportText), ProgramError>
     requires held { AreHeld document.resume }
     ensures ran { IfOk result (λ ran. (report : Report) × IsRestartRun document round_limit report × (ran.0 ≡ report.status) × (ran.1 ≡ report_text report)) }
     ensures why { IfErr result (λ e. IsBreakOff e ⊎ IsRestartRefused document round_limit e) }

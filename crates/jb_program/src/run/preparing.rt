@@ -8,7 +8,7 @@ ghost use Rattle.jb_step.specs.preparing.Setup.{IsSetup, overrides, gone_on, sav
 ghost use Rattle.jb_program.specs.JobRun.{plan_for};
 ghost use Rattle.jb_program.specs.StepRun.{IsNotBegun, setup_with};
 
-use crate::streams::Failure;
+use crate::streams::ProgramError;
 use jb_base::Ranges;
 use jb_collect::FaultlessReducer;
 use jb_job::Step;
@@ -32,7 +32,7 @@ fn prepared_by(
     mapper: &mut dyn PartitionMapper,
     saved: Option<Saved>,
     reducer: &mut FaultlessReducer,
-) -> Result<Prepared, Failure>
+) -> Result<Prepared, ProgramError>
     requires few { records ≤ max_records }
     requires mapped { mapping mapper.old records ≡ Ok (plan_for step.now.spec records) }
     ensures runnable { OnOk result (IsRunnable records (plan_for step.now.spec records)) }
@@ -40,14 +40,14 @@ fn prepared_by(
     ensures prepared { IfOk result (λ prepared. prepared ≡ setup_with step.now (plan_for step.now.spec records) (gone_on step.now.spec.replace saved)) }
     ensures setup { IfOk result (λ prepared. IsSetup prepared) }
     ensures begun { OnOk result (reducer.new ≡ reducer.old ++ calls_before (overrides step.now.spec.replace saved)) }
-    ensures why { IfErr result (λ e. (e ≡ Failure.Memory) ⊎ IsNotBegun step.now records (plan_for step.now.spec records) saved e) }
+    ensures why { IfErr result (λ e. (e ≡ ProgramError.Memory) ⊎ IsNotBegun step.now records (plan_for step.now.spec records) saved e) }
 {
     match prepare(alloc, step, records, mapper, reducer, saved) {
         Ok(prepared) => Ok(prepared),
         Err(error) => match error {
-            StepError::Plan(fault) => Err(Failure::from(fault)),
-            StepError::Saved(place) => Err(Failure::Saved(place)),
-            StepError::Memory => Err(Failure::Memory),
+            StepError::Plan(fault) => Err(ProgramError::from(fault)),
+            StepError::Saved(place) => Err(ProgramError::Saved(place)),
+            StepError::Memory => Err(ProgramError::Memory),
             _ => unreachable!(),
         },
     }
@@ -61,14 +61,14 @@ pub fn prepared_step(
     records: u64,
     saved: Option<Saved>,
     reducer: &mut FaultlessReducer,
-) -> Result<Prepared, Failure>
+) -> Result<Prepared, ProgramError>
     requires few { records ≤ max_records }
     ensures runnable { OnOk result (IsRunnable records (plan_for step.now.spec records)) }
     ensures accepted { OnOk result (saved_faults step.now records step.now.spec.replace saved ≡ []) }
     ensures prepared { IfOk result (λ prepared. prepared ≡ setup_with step.now (plan_for step.now.spec records) (gone_on step.now.spec.replace saved)) }
     ensures setup { IfOk result (λ prepared. IsSetup prepared) }
     ensures begun { OnOk result (reducer.new ≡ reducer.old ++ calls_before (overrides step.now.spec.replace saved)) }
-    ensures why { IfErr result (λ e. (e ≡ Failure.Memory) ⊎ IsNotBegun step.now records (plan_for step.now.spec records) saved e) }
+    ensures why { IfErr result (λ e. (e ≡ ProgramError.Memory) ⊎ IsNotBegun step.now records (plan_for step.now.spec records) saved e) }
 {
     let spec = step.spec();
     match spec.ranges() {

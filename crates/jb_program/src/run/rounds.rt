@@ -1,9 +1,9 @@
-//! The rounds of a step, on a desk of its own.
+//! The rounds of a step, on a new desk.
 
 ghost use Rattle.std.specs.Prelude.{◌≡◌, ◌++◌, false, map, IfErr, IfOk};
 ghost use Rattle.jb_base.specs.Limits.{max_parts};
 ghost use Rattle.jb_collect.specs.ReducerCalls.{calls_after};
-ghost use Rattle.jb_collect.specs.Taken.{well};
+ghost use Rattle.jb_collect.specs.AnsweredCalls.{well};
 ghost use Rattle.jb_step.specs.Answers.{AreLeftOnTheWay, IsRunError, IsRunOfStep, given_back};
 ghost use Rattle.jb_step.specs.Headline.{Headline};
 ghost use Rattle.jb_step.specs.preparing.Prepare.{DoFit};
@@ -13,7 +13,7 @@ ghost use Rattle.jb_step.specs.declared.error.StepError.TheVariants.{WrongArtifa
 ghost use Rattle.jb_program.specs.Refusals.{IsBreakOff, IsFailureOf};
 
 use crate::run::artifacts::OwnArtifacts;
-use crate::streams::Failure;
+use crate::streams::ProgramError;
 use jb_artifacts::Meaning;
 use jb_chunk::Task;
 use jb_collect::{FaultlessAnalyzer, FaultlessReducer};
@@ -25,16 +25,16 @@ use std::sync::ledger::{Blank, Ledger};
 use std::thread::Threads;
 
 /// Why the run of a step whose artifacts fit has no end.
-fn run_failure(error: StepError) -> Failure
+fn run_failure(error: StepError) -> ProgramError
     requires causes { IsRunError error }
     requires fit { error ≡ WrongArtifacts → ⊥ }
     ensures why { IsFailureOf error result }
     ensures broken { IsBreakOff result }
 {
     match error {
-        StepError::Repository(partition) => Failure::Repository(partition),
-        StepError::Workers => Failure::Workers,
-        StepError::Memory => Failure::Memory,
+        StepError::Repository(partition) => ProgramError::Repository(partition),
+        StepError::Workers => ProgramError::Workers,
+        StepError::Memory => ProgramError::Memory,
         StepError::Plan(_) => unreachable!(),
         StepError::Mapper(_) => unreachable!(),
         StepError::Reducer(_) => unreachable!(),
@@ -43,7 +43,7 @@ fn run_failure(error: StepError) -> Failure
     }
 }
 
-/// Runs the rounds of a prepared step on a desk of its own, in no more rounds than the limit, over one pool of workers. `blank` is a
+/// Runs the rounds of a prepared step on a new desk, in no more rounds than the limit, over one pool of workers. `blank` is a
 /// ledger's with `MAX_PARTS` parts. The analyzer and the reducer come back.
 pub fn run_over_desk<T: Threads + Wait + Sync, L: Ledger + Send + Sync + 'static>(
     rt: &T,
@@ -54,7 +54,7 @@ pub fn run_over_desk<T: Threads + Wait + Sync, L: Ledger + Send + Sync + 'static
     round_limit: Option<u64>,
     analyzer: FaultlessAnalyzer,
     reducer: FaultlessReducer,
-) -> Result<(StepEnd<OwnArtifacts>, FaultlessAnalyzer, FaultlessReducer), Failure>
+) -> Result<(StepEnd<OwnArtifacts>, FaultlessAnalyzer, FaultlessReducer), ProgramError>
     requires name { blank.name ≡ L.name }
     requires parts { blank.parts ≡ L.parts }
     requires all { blank.parts ≡ max_parts }

@@ -2,7 +2,7 @@
 
 ghost use Rattle.std.specs.Prelude.{◌≡◌, ◌≤◌};
 ghost use Rattle.jb_base.specs.Limits.{max_retry_limit};
-ghost use Rattle.jb_chunk.specs.Standing.{HasItemCount};
+ghost use Rattle.jb_chunk.specs.TaskState.{HasItemCount};
 
 use jb_base::{Rules, Text};
 use jb_documents::StepFaults;
@@ -33,7 +33,7 @@ pub fn settings_for(
     ensures retried { result.rules.retry_limit ≤ max_retry_limit }
 {
     let rules = step.rules();
-    // Reading the limit tells the proof how high it may be.
+    // Unused, but it brings the type's invariant into the proof: how high the limit may be.
     let _limit = rules.retry_limit;
     StepSettings {
         rules,

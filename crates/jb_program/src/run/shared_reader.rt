@@ -25,7 +25,7 @@ pub struct SharedReader {
 }
 
 impl SharedReader {
-    /// A reader of the range's records. It stands at the first. Takes no memory.
+    /// A reader of the range's records, at the first. Takes no memory.
     pub fn new(
         alloc: Global,
         records: Arc<PackedList>,
@@ -82,7 +82,7 @@ impl ItemReader for SharedReader {
 impl LendingReader for SharedReader {
     fn pass_item(&mut self) -> Result<(), ArtifactError> {
         let number = self.place;
-        // Reading the end tells the proof how high it may be.
+        // Unused, but it brings the type's invariant into the proof: how high the end may be.
         let _end = self.range.hi;
         self.place += 1;
         match self.faults.strike(number) {

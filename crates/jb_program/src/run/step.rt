@@ -8,13 +8,13 @@ ghost use Rattle.jb_program.specs.Refusals.{IsBreakOff};
 ghost use Rattle.jb_program.specs.StepRun.{AreHeld};
 
 use crate::run::artifacts::all_artifacts;
-use crate::run::held::taken;
-use crate::run::laws::laws_below;
+use crate::run::held::saved_state;
+use crate::run::laws::lower_laws;
 use crate::run::preparing::prepared_step;
+use crate::run::report::write_step;
 use crate::run::rounds::run_over_desk;
 use crate::run::settings::settings_for;
-use crate::run::told::write_step;
-use crate::streams::Failure;
+use crate::streams::ProgramError;
 use jb_base::MAX_PARTS;
 use jb_collect::{Analyzer, FaultlessAnalyzer, FaultlessReducer, Reducer, Status};
 use jb_documents::{Resume, StepData};
@@ -26,8 +26,8 @@ use std::sync::Wait;
 use std::sync::ledger::Blank;
 use std::thread::Threads;
 
-/// Runs a step: prepares it by its partition plan, or by what the run before left, if the plan doesn't discard that, runs its
-/// partitions over its threads in no more rounds than the limit, and writes the step's report. What it works on is used up.
+/// Runs a step and writes its report. It is prepared by its partition plan, or by what the run before left if the plan doesn't discard
+/// that. Its partitions run over its threads in no more rounds than the limit. What it works on is used up.
 pub fn run_job_step<T: Threads + Wait + Sync>(
     rt: &T,
     alloc: Global,
@@ -36,7 +36,7 @@ pub fn run_job_step<T: Threads + Wait + Sync>(
     round_limit: Option<u64>,
     resume: Option<Resume>,
     text: &mut StepsText,
-) -> Result<Status, Failure>
+) -> Result<Status, ProgramError>
     requires held { IfSome resume AreHeld }
     ensures ran { IfOk result (λ status. (report : StepReport) × IsStepRun step.now supply round_limit resume report × (status ≡ report.status) × (text.new ≡ text.old ++ step_tokens report)) }
     ensures why { IfErr result (λ e. IsBreakOff e ⊎ IsStepRefused step.now supply resume e) }
@@ -47,8 +47,8 @@ pub fn run_job_step<T: Threads + Wait + Sync>(
         drop,
         faults,
     } = supply;
-    laws_below();
-    let (saved, outputs) = taken(alloc, resume, step.spec().replace());
+    lower_laws();
+    let (saved, outputs) = saved_state(alloc, resume, step.spec().replace());
     let mut reducer = FaultlessReducer::new(alloc);
     let count = records.as_list().len() as u64;
     let prepared = prepared_step(alloc, step, count, saved, &mut reducer)?;

@@ -3,7 +3,7 @@
 ghost use Rattle.std.specs.Prelude.{◌≡◌, IfOk};
 ghost use Rattle.jb_program.specs.FailureText.{failure_text};
 
-use super::failure::Failure;
+use super::error::ProgramError;
 use arrayvec::ArrayString;
 use std::fmt;
 use std::fmt::Write;
@@ -12,7 +12,7 @@ use std::fmt::Write;
 const ROOM: usize = 256;
 
 /// The lines of a failure, where there is room for them.
-pub fn lines_of(failure: &Failure) -> Result<ArrayString<ROOM>, fmt::Error>
+pub fn lines_of(failure: &ProgramError) -> Result<ArrayString<ROOM>, fmt::Error>
     ensures { IfOk result (λ lines. lines.bytes ≡ failure_text failure.now) }
 {
     let mut lines = ArrayString::new();

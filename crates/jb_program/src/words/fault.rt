@@ -6,7 +6,7 @@ use std::alloc::AllocError;
 use std::fmt;
 use thiserror::Error;
 
-/// What is wrong with the words.
+/// What is wrong with the arguments.
 #[derive(Debug, Drop, Error)]
 pub enum UsageFault {
     /// There is none.
@@ -17,7 +17,7 @@ pub enum UsageFault {
     Wrong(String),
 }
 
-/// Where to find which words are right.
+/// Where to find which arguments are right.
 pub const ADVICE: &str = "batchrun --help says which words there are\n";
 
 /// Two lines: what is wrong, and where to find what is right.
@@ -41,7 +41,7 @@ impl fmt::Display for UsageFault {
 /// Why the command line asks for nothing.
 #[derive(Debug, Drop, Error)]
 pub enum LineFault {
-    /// The words are wrong.
+    /// The arguments are wrong.
     #[error("{0}")]
     Usage(UsageFault),
     /// There was no memory to read them.

@@ -5,7 +5,7 @@ ghost use Rattle.std.specs.Io.KnownBytes.{Appends};
 ghost use Rattle.jb_texts.specs.Front.{AppendsFront};
 ghost use Rattle.jb_program.specs.Help.{help_text, version_text};
 
-use crate::streams::Failure;
+use crate::streams::ProgramError;
 use crate::words::request::Word;
 use jb_texts::write_whole;
 use std::io::Write;
@@ -13,7 +13,7 @@ use std::io::Write;
 /// The program's version, as it is printed.
 pub const VERSION: &str = "batchrun 0.1.0\n";
 
-/// What the program is for, its words, and what each status says.
+/// What the program is for, its subcommands, and what each status means.
 const PROGRAM: &str = "usage: batchrun WORD < DOCUMENT
        batchrun help [WORD]
 
@@ -129,9 +129,9 @@ is 1. docs/FORMATS.md has the faults by their names.
 ";
 
 /// Writes a text. The exit status is 0.
-fn write_text<W: Write>(text: &str, writer: &mut W) -> Result<u8, Failure>
+fn write_text<W: Write>(text: &str, writer: &mut W) -> Result<u8, ProgramError>
     ensures ok { IfOk result (λ status. (status ≡ 0) × Appends (W.contents writer.old) (W.contents writer.new) text.now) }
-    ensures err { IfErr result (λ e. (e ≡ Failure.Stream) × AppendsFront (W.contents writer.old) (W.contents writer.new) text.now) }
+    ensures err { IfErr result (λ e. (e ≡ ProgramError.Stream) × AppendsFront (W.contents writer.old) (W.contents writer.new) text.now) }
 {
     write_whole(text.as_bytes(), writer)?;
     Ok(0)
@@ -139,9 +139,9 @@ fn write_text<W: Write>(text: &str, writer: &mut W) -> Result<u8, Failure>
 
 /// Writes the help of the program, or of a word. The exit status is 0.
 #[tactic(auto, unfolding(crate::specs::Help::program_help, crate::specs::Help::run_help, crate::specs::Help::restart_help, crate::specs::Help::plan_help, crate::specs::Help::check_help))]
-pub fn write_help<W: Write>(topic: Option<Word>, writer: &mut W) -> Result<u8, Failure>
+pub fn write_help<W: Write>(topic: Option<Word>, writer: &mut W) -> Result<u8, ProgramError>
     ensures ok { IfOk result (λ status. (status ≡ 0) × Appends (W.contents writer.old) (W.contents writer.new) (help_text topic)) }
-    ensures err { IfErr result (λ e. (e ≡ Failure.Stream) × AppendsFront (W.contents writer.old) (W.contents writer.new) (help_text topic)) }
+    ensures err { IfErr result (λ e. (e ≡ ProgramError.Stream) × AppendsFront (W.contents writer.old) (W.contents writer.new) (help_text topic)) }
 {
     match topic {
         None => write_text(PROGRAM, writer),
@@ -154,9 +154,9 @@ pub fn write_help<W: Write>(topic: Option<Word>, writer: &mut W) -> Result<u8, F
 
 /// Writes the program's version. The exit status is 0.
 #[tactic(auto, unfolding(crate::specs::Help::version_text))]
-pub fn write_version<W: Write>(writer: &mut W) -> Result<u8, Failure>
+pub fn write_version<W: Write>(writer: &mut W) -> Result<u8, ProgramError>
     ensures ok { IfOk result (λ status. (status ≡ 0) × Appends (W.contents writer.old) (W.contents writer.new) version_text) }
-    ensures err { IfErr result (λ e. (e ≡ Failure.Stream) × AppendsFront (W.contents writer.old) (W.contents writer.new) version_text) }
+    ensures err { IfErr result (λ e. (e ≡ ProgramError.Stream) × AppendsFront (W.contents writer.old) (W.contents writer.new) version_text) }
 {
     write_text(VERSION, writer)
 }

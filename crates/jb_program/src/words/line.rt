@@ -1,4 +1,4 @@
-//! The command line: the words after the program's name.
+//! The command line: the arguments after the program's name.
 
 ghost use Rattle.std.specs.Prelude.{◌≡◌, ◌∷◌, ◌++◌, [], codes, map, option_map, true, false, None, IfErr, IfOk, IfSome};
 ghost use Rattle.clap.specs.Words.{app_of, subcommand_rows_of, with_subcommand};
@@ -83,7 +83,7 @@ fn word_of(name: &str) -> Option<Word>
     }
 }
 
-/// The help that `help` gives: of the program, or of the word behind it.
+/// The help that `help` gives: of the program, or of the subcommand after it.
 fn topic_of(name: Option<&str>) -> Option<Request>
     ensures { result ≡ topic_in (option_map (λ n. n.now) name.entry) }
 {
@@ -161,7 +161,7 @@ fn topic_before(words: &[&str]) -> Option<Word>
     }
 }
 
-/// What the words ask for, if they ask for something.
+/// What the arguments ask for, if they ask for something.
 fn asked<'a>(alloc: Global, words: &'a [&'a str]) -> Result<Option<Request>, LineFault>
     ensures asks { IfOk result (λ request. IfSome request (Asks (map (λ w. w.now) words.now))) }
     ensures nothing { IfOk result (λ request. request ≡ None → AreUnknown (map (λ w. w.now) words.now)) }
@@ -179,7 +179,7 @@ fn asked<'a>(alloc: Global, words: &'a [&'a str]) -> Result<Option<Request>, Lin
     }
 }
 
-/// The words with a number behind them.
+/// The arguments with a number after them.
 fn with_a_number<'a>(alloc: Global, words: &'a [&'a str]) -> Result<Vec<&'a str>, AllocError>
     ensures { IfOk result (λ longer. map (λ w. w.now) longer.items ≡ map (λ w. w.now) words.now ++ codes "0" ∷ []) }
 {
@@ -191,7 +191,7 @@ fn with_a_number<'a>(alloc: Global, words: &'a [&'a str]) -> Result<Vec<&'a str>
     Ok(longer)
 }
 
-/// Whether the words ask for something, or would if a number stood behind them.
+/// Whether the arguments ask for something, or would with a number after them.
 fn can_go_on<'a>(alloc: Global, words: &'a [&'a str]) -> Result<bool, LineFault>
     ensures yes { IfOk result (λ can. can ≡ true → CanBeCompleted (map (λ w. w.now) words.now)) }
     ensures no { IfOk result (λ can. can ≡ false → CannotGoOn (map (λ w. w.now) words.now)) }
@@ -204,8 +204,8 @@ fn can_go_on<'a>(alloc: Global, words: &'a [&'a str]) -> Result<bool, LineFault>
     Ok(asked(alloc, &longer)?.is_some())
 }
 
-/// The fault of words that ask for nothing: the first word up to which no number behind them would help, else the last, or that
-/// there is none.
+/// The fault of arguments that ask for nothing: the first argument up to which no number after them would help, else the last,
+/// or that there are no arguments.
 fn fault_in<'a>(alloc: Global, words: &'a [&'a str]) -> Result<UsageFault, LineFault>
     requires { AreUnknown (map (λ w. w.now) words.now) }
     ensures wrong { IfOk result (λ fault. IsWrong fault (Some (map (λ w. w.now) words.now))) }
@@ -223,8 +223,8 @@ fn fault_in<'a>(alloc: Global, words: &'a [&'a str]) -> Result<UsageFault, LineF
     Ok(UsageFault::Wrong(last.to_string(alloc)?))
 }
 
-/// What the words after the program's name ask for. Where they ask for nothing, they are refused as `Usage`, with the first word
-/// up to which they do so whatever number stands behind, or the last where its number is missing.
+/// What the arguments after the program's name ask for. If they ask for nothing, they are refused as `Usage`, with the first
+/// argument up to which no number after them would help. If there is no such argument, it is the last, whose number is missing.
 pub fn line_of<'a>(alloc: Global, words: &'a [&'a str]) -> Result<Request, LineFault>
     ensures ok { IfOk result (Asks (map (λ w. w.now) words.now)) }
     ensures err { IfErr result (λ e. (fault : UsageFault) → e ≡ LineFault.Usage fault → IsWrong fault (Some (map (λ w. w.now) words.now))) }

@@ -9,7 +9,7 @@ ghost use Rattle.jb_texts.specs.PlanText.{text_of_load};
 ghost use Rattle.jb_program.specs.PlanWord.{IsPlanFront, IsPlanned, IsPlannedFor};
 ghost use Rattle.jb_program.specs.Refusals.{IsDocumentFailure};
 
-use crate::streams::{Failure, read_all};
+use crate::streams::{ProgramError, read_all};
 use jb_documents::{ChunkLoad, read_load};
 use jb_rounds::RoundCursor;
 use jb_texts::{BLOCK_ROOM, write_plan};
@@ -17,11 +17,15 @@ use std::alloc::Global;
 use std::io::{Read, Write};
 
 // Plans the load, and writes the plan. All memory is taken before the first byte is written.
-fn answer_load<W: Write>(alloc: Global, load: &ChunkLoad, writer: &mut W) -> Result<u8, Failure>
+fn answer_load<W: Write>(
+    alloc: Global,
+    load: &ChunkLoad,
+    writer: &mut W,
+) -> Result<u8, ProgramError>
     ensures status { IfOk result (λ status. status ≡ 0) }
     ensures planned { OnOk result (IsPlannedFor load.now (W.contents writer.old) (W.contents writer.new)) }
-    ensures err { IfErr result (λ e. (e ≡ Failure.Memory × Keeps (W.contents writer.old) (W.contents writer.new))
-        ⊎ (e ≡ Failure.Stream × AppendsFront (W.contents writer.old) (W.contents writer.new) (text_of_load load.now))) }
+    ensures err { IfErr result (λ e. (e ≡ ProgramError.Memory × Keeps (W.contents writer.old) (W.contents writer.new))
+        ⊎ (e ≡ ProgramError.Stream × AppendsFront (W.contents writer.old) (W.contents writer.new) (text_of_load load.now))) }
 {
     let cursor = RoundCursor::new(alloc, load.counts(), load.threads())?;
     // They say why the plan is a least one.
@@ -34,19 +38,19 @@ fn answer_load<W: Write>(alloc: Global, load: &ChunkLoad, writer: &mut W) -> Res
 /// Reads a document of `plan` and writes its plan: the number of rounds and the certificate, and then a line for each
 /// round. The exit status is 0.
 ///
-/// It fails with `Document` and the document's first fault, with `Memory` before a byte is written, and with `Stream`
-/// where the reader or the writer fails; then the writer may have taken the front of the plan.
+/// It fails with `Document` and the document's first fault, and with `Memory` before a byte is written. It fails with
+/// `Stream` if the reader or the writer fails: then the writer may have taken the front of the plan.
 #[tactic(auto, using(crate::proofs::Refusals::refusals))]
 pub fn run_plan<R: Read, W: Write>(
     alloc: Global,
     reader: &mut R,
     writer: &mut W,
-) -> Result<u8, Failure>
+) -> Result<u8, ProgramError>
     ensures status { IfOk result (λ status. status ≡ 0) }
     ensures planned { OnOk result (IsPlanned (R.remaining reader.old) (W.contents writer.old) (W.contents writer.new)) }
-    ensures refused { IfErr result (λ e. (fault : JobError) → e ≡ Failure.Document fault → IfSome (R.remaining reader.old) (IsRefusedLoad fault)) }
+    ensures refused { IfErr result (λ e. (fault : JobError) → e ≡ ProgramError.Document fault → IfSome (R.remaining reader.old) (IsRefusedLoad fault)) }
     ensures failures { IfErr result IsDocumentFailure }
-    ensures silent { IfErr result (λ e. e ≢ Failure.Stream → Keeps (W.contents writer.old) (W.contents writer.new)) }
+    ensures silent { IfErr result (λ e. e ≢ ProgramError.Stream → Keeps (W.contents writer.old) (W.contents writer.new)) }
     ensures cut { OnErr result (Keeps (W.contents writer.old) (W.contents writer.new) ⊎ IsPlanFront (R.remaining reader.old) (W.contents writer.old) (W.contents writer.new)) }
 {
     let bytes = read_all(alloc, reader)?;

@@ -1,4 +1,4 @@
-//! The words of the process: its arguments behind the program's name.
+//! The arguments of the process, after the program's name.
 
 ghost use Rattle.std.specs.Prelude.{◌≡◌, drop, map, string_bytes, IfErr, IfOk};
 ghost use Rattle.jb_program.specs.ProcessWords.{process_words};
@@ -31,7 +31,7 @@ fn texts_of(alloc: Global, args: &[String]) -> Result<Vec<&str>, AllocError>
     Ok(texts)
 }
 
-/// The words behind the first, which is the program's name.
+/// The arguments after the first, which is the program's name.
 pub fn words_after_name(alloc: Global, args: &[String]) -> Result<Vec<&str>, AllocError>
     ensures { IfOk result (λ words. map (λ w. w.now) words.items ≡ drop 1 (map string_bytes args.now)) }
 {

@@ -13,7 +13,7 @@ pub enum Word {
     Check,
 }
 
-/// A word, and what it is told beside its document.
+/// A subcommand, and what its arguments say besides its document.
 #[derive(Clone, Copy, Debug, PartialEq, Eq)]
 pub struct Line {
     pub word: Word,

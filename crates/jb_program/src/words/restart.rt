@@ -1,4 +1,4 @@
-//! The word `restart`: a job goes on from what the run before left, and its report is written.
+//! The subcommand `restart`: a job resumes from what the run before left, and its report is written.
 
 ghost use Rattle.std.specs.Prelude.{◌≡◌, ◌≢◌, ◌⊎◌, IfErr, IfOk, IfSome, OnErr};
 ghost use Rattle.std.specs.Io.KnownBytes.{Keeps};
@@ -11,7 +11,7 @@ ghost use Rattle.jb_program.specs.Refusals.{IsRunFailure};
 ghost use Rattle.jb_program.specs.RestartWord.{IsRefusedRestartStep, IsRefusedSaved, IsRestarted, IsRestartFront};
 
 use crate::run::restart_job;
-use crate::streams::{Failure, read_all};
+use crate::streams::{ProgramError, read_all};
 use crate::words::run::write_report;
 use jb_documents::read_restart;
 use std::alloc::Global;
@@ -19,8 +19,8 @@ use std::io::{Read, Write};
 use std::sync::Wait;
 use std::thread::Threads;
 
-/// Reads a document of `restart`, goes on with its job at the step whose rows were saved, each step in no more rounds than the
-/// limit, and writes the report. The exit status is 0 where the job is completed, 1 where it failed, and 2 where it was stopped
+/// Reads a document of `restart`, resumes its job at the step whose rows were saved, each step in no more rounds than the
+/// limit, and writes the report. The exit status is 0 if the job is completed, 1 if it failed, and 2 if it was stopped
 /// before its end.
 ///
 /// Where the reader or the writer fails, the writer may hold the front of the report; where anything else is wrong, it holds
@@ -32,13 +32,13 @@ pub fn restart<T: Threads + Wait + Sync, R: Read, W: Write>(
     round_limit: Option<u64>,
     reader: &mut R,
     writer: &mut W,
-) -> Result<u8, Failure>
+) -> Result<u8, ProgramError>
     ensures ok { IfOk result (IsRestarted round_limit (R.remaining reader.old) (W.contents writer.old) (W.contents writer.new)) }
-    ensures refused { IfErr result (λ e. (fault : JobError) → e ≡ Failure.Document fault → IfSome (R.remaining reader.old) (IsRefusedRestart (restart_fault.Document fault))) }
-    ensures unplanned { IfErr result (λ e. (fault : PlanError) → e ≡ Failure.Plan fault → IfSome (R.remaining reader.old) (IsRefusedRestartStep round_limit (Failure.Plan fault))) }
-    ensures unsaved { IfErr result (λ e. (place : SavedPlace) → e ≡ Failure.Saved place → IfSome (R.remaining reader.old) (IsRefusedSaved round_limit place)) }
+    ensures refused { IfErr result (λ e. (fault : JobError) → e ≡ ProgramError.Document fault → IfSome (R.remaining reader.old) (IsRefusedRestart (restart_fault.Document fault))) }
+    ensures unplanned { IfErr result (λ e. (fault : PlanError) → e ≡ ProgramError.Plan fault → IfSome (R.remaining reader.old) (IsRefusedRestartStep round_limit (ProgramError.Plan fault))) }
+    ensures unsaved { IfErr result (λ e. (place : SavedPlace) → e ≡ ProgramError.Saved place → IfSome (R.remaining reader.old) (IsRefusedSaved round_limit place)) }
     ensures failures { IfErr result IsRunFailure }
-    ensures silent { IfErr result (λ e. e ≢ Failure.Stream → Keeps (W.contents writer.old) (W.contents writer.new)) }
+    ensures silent { IfErr result (λ e. e ≢ ProgramError.Stream → Keeps (W.contents writer.old) (W.contents writer.new)) }
     ensures cut { OnErr result (Keeps (W.contents writer.old) (W.contents writer.new) ⊎ IsRestartFront round_limit (R.remaining reader.old) (W.contents writer.old) (W.contents writer.new)) }
 {
     let bytes = read_all(alloc, reader)?;

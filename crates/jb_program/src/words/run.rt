@@ -12,7 +12,7 @@ ghost use Rattle.jb_program.specs.Refusals.{IsRunFailure};
 ghost use Rattle.jb_program.specs.RunWord.{IsRefusedPlan, IsRun, IsRunFront};
 
 use crate::run::run_job;
-use crate::streams::{Failure, read_all};
+use crate::streams::{ProgramError, read_all};
 use jb_collect::Status;
 use jb_documents::read_document;
 use jb_texts::{ReportText, status_code};
@@ -26,9 +26,9 @@ pub fn write_report<W: Write>(
     status: Status,
     report: ReportText,
     writer: &mut W,
-) -> Result<u8, Failure>
+) -> Result<u8, ProgramError>
     ensures ok { IfOk result (λ code. (code ≡ status_code status) × Appends (W.contents writer.old) (W.contents writer.new) report) }
-    ensures err { IfErr result (λ e. (e ≡ Failure.Stream) × AppendsFront (W.contents writer.old) (W.contents writer.new) report) }
+    ensures err { IfErr result (λ e. (e ≡ ProgramError.Stream) × AppendsFront (W.contents writer.old) (W.contents writer.new) report) }
 {
     report.write_to(writer)?;
     Ok(status_code(status))
@@ -46,13 +46,13 @@ pub fn run<T: Threads + Wait + Sync, R: Read, W: Write>(
     round_limit: Option<u64>,
     reader: &mut R,
     writer: &mut W,
-) -> Result<u8, Failure>
+) -> Result<u8, ProgramError>
     ensures ok { IfOk result (IsRun round_limit (R.remaining reader.old) (W.contents writer.old) (W.contents writer.new)) }
-    ensures refused { IfErr result (λ e. (fault : JobError) → e ≡ Failure.Document fault → IfSome (R.remaining reader.old) (IsRefusedDocument fault)) }
-    ensures unplanned { IfErr result (λ e. (fault : PlanError) → e ≡ Failure.Plan fault → IfSome (R.remaining reader.old) (IsRefusedPlan round_limit fault)) }
-    ensures unsaved { IfErr result (λ e. (place : SavedPlace) → e ≢ Failure.Saved place) }
+    ensures refused { IfErr result (λ e. (fault : JobError) → e ≡ ProgramError.Document fault → IfSome (R.remaining reader.old) (IsRefusedDocument fault)) }
+    ensures unplanned { IfErr result (λ e. (fault : PlanError) → e ≡ ProgramError.Plan fault → IfSome (R.remaining reader.old) (IsRefusedPlan round_limit fault)) }
+    ensures unsaved { IfErr result (λ e. (place : SavedPlace) → e ≢ ProgramError.Saved place) }
     ensures failures { IfErr result IsRunFailure }
-    ensures silent { IfErr result (λ e. e ≢ Failure.Stream → Keeps (W.contents writer.old) (W.contents writer.new)) }
+    ensures silent { IfErr result (λ e. e ≢ ProgramError.Stream → Keeps (W.contents writer.old) (W.contents writer.new)) }
     ensures cut { OnErr result (Keeps (W.contents writer.old) (W.contents writer.new) ⊎ IsRunFront round_limit (R.remaining reader.old) (W.contents writer.old) (W.contents writer.new)) }
 {
     let bytes = read_all(alloc, reader)?;

@@ -11,7 +11,7 @@ use Rattle.jb_records.specs.Failures.{AreSkipped}
 use Rattle.jb_records.specs.Function.{Function, refusal_of}
 use Rattle.jb_records.specs.Skips.{skip_by, skips_between}
 
--- an attempt at the chunk where the row stands comes to this record, with so many skips before it
+-- an attempt at the row's next chunk comes to this record, with so many skips before it
 pub record IsReached (f : Function) (rules : RulesRecord) (records : List (List ℕ)) (row : Row) (number skips : ℕ) : Type 0 where
   pub number_of : skips ≡ skips_of row + length (skips_between f records row.at number)
   pub skipped : AreSkipped f rules records row number

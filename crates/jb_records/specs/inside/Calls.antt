@@ -18,26 +18,26 @@ use Rattle.jb_records.specs.declared.error.RecordsStepError.TheVariants.{Memory,
 use Rattle.jb_records.specs.declared.step.RecordsStep.{RecordsStep}
 use Rattle.jb_records.specs.Function.{Function}
 use Rattle.jb_records.specs.Made.{even_partitions, step_record}
-use Rattle.jb_records.specs.Shares.{AreNumbered}
+use Rattle.jb_records.specs.PartitionResults.{AreNumbered}
 
--- ---- what can be begun
+-- ---- what can begin
 
 -- the partition of this number and row: the records of its range are there, and it has its share
-pub record HasOwn (records : ℕ) (rows : List Row) (shares : List (List (List ℕ))) (n : ℕ × Row) : Type 0 where
+pub record HasOwn (records : ℕ) (rows : List Row) (partition_results : List (List (List ℕ))) (n : ℕ × Row) : Type 0 where
   pub row : slice_get rows n.0 ≡ Some n.1
   pub within : IsWithin records (range_of n.1)
   pub share : List (List ℕ)
-  pub given : slice_get shares n.0 ≡ Some share
+  pub given : slice_get partition_results n.0 ≡ Some share
   pub number : length share ≡ n.1.written
 
 -- the same of partitions that are named by their numbers
-abbrev pub HaveOwn : (records : ℕ) → List Row → (shares : List (List (List ℕ))) → (partitions : List ℕ) → Type 0
-HaveOwn records rows shares ps = AllByRecursion (λ p. (row : Row) × HasOwn records rows shares (p, row)) ps
+abbrev pub HaveOwn : (records : ℕ) → List Row → (partition_results : List (List (List ℕ))) → (partitions : List ℕ) → Type 0
+HaveOwn records rows partition_results ps = AllByRecursion (λ p. (row : Row) × HasOwn records rows partition_results (p, row)) ps
 
 -- the records of each row's range are there, and each partition has its share
-pub record CanBeginOver (records : ℕ) (rows : List Row) (shares : List (List (List ℕ))) : Type 0 where
+pub record CanBeginOver (records : ℕ) (rows : List Row) (partition_results : List (List (List ℕ))) : Type 0 where
   pub within : (p : ℕ) (row : Row) → slice_get rows p ≡ Some row → IsWithin records (range_of row)
-  pub numbered : AreNumbered rows shares
+  pub numbered : AreNumbered rows partition_results
 
 -- ---- why a call has no answer
 
@@ -59,7 +59,7 @@ abbrev pub IsUnpreparedFor : RecordsStep → (records : ℕ) → Option SavedRow
 IsUnpreparedFor step records saved Records = max_records < records
 IsUnpreparedFor step records saved e = IsUnprepared (step_record step) records (even_partitions step records) saved e
 
--- the step isn't begun
+-- the step can't begin
 abbrev pub written_by : Option SavedRows → ℕ
 written_by None = 0
 written_by (Some held) = written_in held.rows
@@ -68,10 +68,10 @@ abbrev pub IsUnbegun : RecordsStep → (records : ℕ) → Option SavedRows → 
 IsUnbegun step records saved earlier Results = earlier ≡ written_by saved → ⊥
 IsUnbegun step records saved earlier e = IsUnpreparedFor step records saved e
 
--- or not behind these results of its partitions
-abbrev pub IsUnbegunWith : RecordsStep → (records : ℕ) → SavedRows → (shares : List (List (List ℕ))) → RecordsStepError → Type 0
-IsUnbegunWith step records held shares Results = AreNumbered held.rows shares → ⊥
-IsUnbegunWith step records held shares e = IsUnpreparedFor step records (Some held) e
+-- or it can't resume from these results of its partitions
+abbrev pub IsUnbegunWith : RecordsStep → (records : ℕ) → SavedRows → (partition_results : List (List (List ℕ))) → RecordsStepError → Type 0
+IsUnbegunWith step records held partition_results Results = AreNumbered held.rows partition_results → ⊥
+IsUnbegunWith step records held partition_results e = IsUnpreparedFor step records (Some held) e
 
 abbrev pub IsUnbegunBehind : RecordsStep → (records : ℕ) → Option (List ℕ × List (List ℕ)) → RecordsStepError → Type 0
 IsUnbegunBehind step records earlier Records = max_records < records
@@ -80,7 +80,7 @@ IsUnbegunBehind step records earlier (Step why) = IsStepFault step records earli
 IsUnbegunBehind step records earlier Memory = Unit {0}
 IsUnbegunBehind step records earlier _ = ⊥
 
--- the step that was begun has no end
+-- the step began, and has no end
 abbrev pub HasNoEnd : Function → RulesRecord → (records : List (List ℕ)) → RecordsStepError → Type 0
 HasNoEnd f rules records SkippedTry = HasSkippedTry f rules 0 records
 HasNoEnd f rules records (Step (error.Repository partition)) = Unit {0}

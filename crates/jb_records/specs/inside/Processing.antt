@@ -20,7 +20,7 @@ pub record IsSettled (outcome : Outcome) (number : ℕ) (old new : FaultTable) (
   pub same : new ≡ old
   pub used : new ≡ used_at old number
 
--- the fault with which it fails: that of its refusal, and no plan changes; or else that of the record's plan, which goes on
+-- The fault with which it fails: that of its refusal, and then no plan changes; or else that of the record's plan, which advances.
 abbrev pub Strikes : (refusal : Option ClassId) → (number : ℕ) → (old new : FaultTable) → ClassId → Type 0
 Strikes (Some refused) number old new class = (class ≡ refused) × (new ≡ old)
 Strikes None number old new class = (live (old number) ≡ Some class) × (new ≡ used_at old number)

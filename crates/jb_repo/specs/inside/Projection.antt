@@ -1,4 +1,4 @@
--- What is kept beside a history, and the questions about the history that it answers.
+-- What is stored beside a history, and the questions about the history that it answers.
 use Rattle.std.specs.Prelude.{◌≡◌, ℕ, ◌<◌, ◌≤◌, Bool, List, length, take, Option, None, IfSome, slice_index_or}
 use Rattle.jb_base.specs.Limits.{max_events, max_partitions, max_threads}
 use Rattle.jb_base.specs.declared.class.ClassId.{ClassId}
@@ -23,7 +23,7 @@ pub record IsInPlace (e : Event) : Type 0 where
 abbrev pub ShowOwners : Owners → List Event → Type 0
 ShowOwners owners past = (l : ℕ) (d : Option ℕ) → l < max_threads → slice_index_or owners.partitions l d ≡ owner l past
 
--- each lane and each partition is marked where the history says so
+-- each lane and each partition is marked if the history says so
 pub record ShowMarks (marks : Marks) (past : List Event) : Type 0 where
   pub lanes : (l : ℕ) (d : Bool) → l < max_threads → slice_index_or marks.lanes l d ≡ is_lane_marked l past
   pub partitions : (p : ℕ) (d : Bool) → p < max_partitions → slice_index_or marks.partitions p d ≡ is_partition_marked p past
@@ -37,7 +37,7 @@ pub record ShowPlan (plan : PlanProgress) (past : List Event) : Type 0 where
   pub closed : plan.closed ≡ is_closed (events_since is_plan past)
   pub stopping : plan.stopping ≡ is_stopping past
 
--- each partition's number is that of its own events
+-- each partition's number counts its own events
 abbrev pub ShowOwnEvents : List ℕ → List Event → Type 0
 ShowOwnEvents counts past = (p d : ℕ) → p < max_partitions → slice_index_or counts p d ≡ length (own p past)
 
@@ -45,7 +45,7 @@ ShowOwnEvents counts past = (p d : ℕ) → p < max_partitions → slice_index_o
 abbrev pub ShowFailures : Failures → List Event → Type 0
 ShowFailures failures past = (p : ℕ) (d : Option ClassId) → p < max_partitions → slice_index_or failures.classes p d ≡ failure_in (own p past)
 
--- all that is kept
+-- all that is stored
 pub record Shows (j : Journal) (s : Projection) : Type 0 where
   pub table : take (length j.opening) s.rows ≡ rows_of j
   pub own_events : ShowOwnEvents s.own_events j.past

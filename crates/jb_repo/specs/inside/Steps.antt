@@ -1,4 +1,4 @@
--- When a row can take an event's step in its life, and the table of rows after it.
+-- When a row can take an event's step, and the table of rows after it.
 use Rattle.std.specs.Prelude.{◌≡◌, ℕ, ◌+◌, ◌<◌, ◌≤◌, true, List, Option, Some, None, slice_set, slice_index_or}
 use Rattle.jb_rules.specs.declared.row.Row.{Row}
 use Rattle.jb_base.specs.Limits.{max_rollbacks, max_in_place}
@@ -18,12 +18,12 @@ IsOutcome (Fail lane class again) = Unit {0}
 IsOutcome (Drop lane) = Unit {0}
 IsOutcome _ = ⊥
 
--- where the event is a Commit, it is one of the row's next block
+-- if the event is a Commit, it is one of the row's next block
 abbrev pub IsCommit : ℕ → Row → Event → Type 0
 IsCommit item_count row (Commit lane delta written again) = is_commit_of item_count row (counts_in delta) written ≡ true
 IsCommit item_count row _ = Unit {0}
 
--- the row is sound and has a next block, and where the event is an outcome the row isn't at its limit of rollbacks, nor
+-- the row is sound and has a next block, and if the event is an outcome the row isn't at its limit of rollbacks, nor
 -- beyond that of repeats
 pub record CanStep (item_count : ℕ) (row : Row) (e : Event) : Type 0 where
   pub sound : IsSoundRow row

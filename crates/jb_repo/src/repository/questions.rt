@@ -1,4 +1,4 @@
-//! What the rest of the repository asks, answered by what is kept beside the history.
+//! What the rest of the repository asks, answered by what is stored beside the history.
 
 ghost use Rattle.std.specs.Prelude.{◌≡◌, ◌<◌, ◌≤◌, length, IfSome};
 ghost use Rattle.jb_repo.specs.History.{owner, number, is_plan, is_stopping, is_plan_open, is_lane_marked, is_partition_marked};
@@ -8,7 +8,7 @@ ghost use Rattle.jb_repo.specs.Sound.{IsTable};
 ghost use Rattle.jb_repo.specs.Table.{rows_of, row_of, reserved, is_full, is_good_plan, is_good_commit};
 ghost use Rattle.jb_rules.specs.Sound.{IsSoundRow};
 
-use crate::laws::laws_below;
+use crate::laws::lower_laws;
 use crate::repository::Repo;
 use crate::steps::is_commit;
 use crate::table::remaining_counts;
@@ -23,7 +23,7 @@ impl Repo {
         ensures table { IsTable result.now (total_counts result.now) }
         ensures fit { CountsFit (total_counts result.now) }
     {
-        laws_below();
+        lower_laws();
         &self.projection.rows[..self.opening.len()]
     }
 
@@ -32,7 +32,7 @@ impl Repo {
         ensures row { result ≡ row_of self.now partition }
         ensures sound { IfSome result (λ row. IsSoundRow row) }
     {
-        laws_below();
+        lower_laws();
         let index = partition as usize;
         if index < self.opening.len() {
             Some(self.projection.rows[index])
@@ -60,7 +60,7 @@ impl Repo {
     pub(super) fn is_good_plan(&self, rounds: u64, certificate: Certificate) -> bool
         ensures { result ≡ is_good_plan self.now rounds certificate }
     {
-        laws_below();
+        lower_laws();
         let rows = self.rows_now();
         let mut counts = [0; MAX_PARTITIONS];
         remaining_counts(rows, self.item_count, &mut counts);
@@ -110,7 +110,7 @@ impl Repo {
         self.projection.owners.owner(lane)
     }
 
-    /// Whether the lane was begun in this round.
+    /// Whether the lane started a chunk in this round.
     pub(super) fn is_lane_marked(&self, lane: u32) -> bool
         requires { lane < self.now.threads }
         ensures { result ≡ is_lane_marked lane self.now.past }
@@ -118,7 +118,7 @@ impl Repo {
         self.projection.marks.has_lane(lane)
     }
 
-    /// Whether the partition was begun in this round.
+    /// Whether a chunk of the partition was started in this round.
     pub(super) fn is_partition_marked(&self, partition: u32) -> bool
         requires { partition < length self.now.opening }
         ensures { result ≡ is_partition_marked partition self.now.past }

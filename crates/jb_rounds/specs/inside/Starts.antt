@@ -1,12 +1,12 @@
 -- The places at which partitions begin, laid end to end.
 use Rattle.std.specs.Prelude.{ℕ, ◌+◌, ◌-◌, ◌<◌, ◌≤◌, List, [], ◌∷◌, length, slice_index}
 
--- where each partition begins, and at last where the last one ends
+-- where each partition begins, and finally where the last one ends
 abbrev pub starts_from : ℕ → List ℕ → List ℕ
 starts_from start [] = start ∷ []
 starts_from start (n ∷ ns) = start ∷ starts_from (start + n) ns
 
--- the counts that lie between the places of a list, of which first is the one before
+-- the counts between the places of a list, where first is the place before them
 abbrev pub counts_after : ℕ → List ℕ → List ℕ
 counts_after first [] = []
 counts_after first (x ∷ xs) = (x - first) ∷ counts_after x xs

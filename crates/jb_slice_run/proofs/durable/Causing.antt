@@ -2,22 +2,22 @@
 use Rattle.std.proofs.Common.{ℕ, ◌≡◌, ◌⊎◌, ◌≤◌, inl, inr, IsTrue, List, [], ◌∷◌, arith}
 use Rattle.sqlite_disk.specs.Disk.{MoreFaults}
 use Rattle.sqlite.specs.State.{State}
-use Rattle.jb_slice_file.specs.Kept.{Kept}
+use Rattle.jb_slice_file.specs.CheckpointBytes.{CheckpointBytes}
 use Rattle.jb_slice_file.specs.declared.error.StoreError.{StoreError}
 use Rattle.jb_slice_file.specs.declared.error.StoreError.TheVariants as named
 use Rattle.jb_slices.specs.Function.{Function}
 use Rattle.jb_slices.specs.Slice.{Functions}
-use Rattle.jb_slice_run.specs.Causes.{IsOfInterval, IsRefusedBy, IsResumeCause}
+use Rattle.jb_slice_run.specs.Causes.{IsIntervalError, IsRefusedBy, IsResumeCause}
 use Rattle.jb_slice_run.specs.Held.{limits_in}
 use Rattle.jb_slice_run.specs.Jobs.{job_in, kept_stamps, own_header}
-use Rattle.jb_slice_run.specs.Kept.{KeepsSlice}
-use Rattle.jb_slice_run.specs.Laws.{OwnSlicesAreTakenUp, SlicesBeginWithHeaders}
+use Rattle.jb_slice_run.specs.SliceBytes.{KeepsSlice}
+use Rattle.jb_slice_run.specs.Laws.{OwnSlicesResume, SlicesBeginWithHeaders}
 use Rattle.jb_slice_run.specs.declared.error.SliceError.{SliceError}
 use Rattle.jb_slice_run.specs.declared.error.SliceError.TheVariants as slice
 use Rattle.jb_slice_run.specs.declared.job.SliceJob.{SliceJob}
 use Rattle.jb_slice_run.specs.declared.run_error.SliceRunError.{SliceRunError}
 use Rattle.jb_slice_run.specs.declared.run_error.SliceRunError.TheVariants as run
-use Rattle.jb_slice_run.specs.durable.Work.{SliceWork, work_of}
+use Rattle.jb_slice_run.specs.durable.Work.{SliceInput, slice_input_of}
 use Rattle.jb_slice_run.specs.declared.durable.error.DurableError.{DurableError}
 use Rattle.jb_slice_run.specs.declared.durable.error.DurableError.TheVariants.{Run, Stopped, Store, TooMany}
 use Rattle.jb_slice_run.specs.durable.Refusals.{HasALongOne, HasEachNumber, IsCauseOfNoEnd, IsGoneCause, IsOwnCause, IsRefusal, IsUnended, IsUntaken, store_refusal}
@@ -25,16 +25,16 @@ use Rattle.jb_slice_run.proofs.durable.Filing.{by_length, since}
 
 -- ---- of a slice so far
 
-module _ (header : SlicesBeginWithHeaders) (own : OwnSlicesAreTakenUp) (job : SliceJob) (functions : Functions) (f : Function) (number : ℕ) (items : List (List ℕ)) where
+module _ (header : SlicesBeginWithHeaders) (own : OwnSlicesResume) (job : SliceJob) (functions : Functions) (f : Function) (number : ℕ) (items : List (List ℕ)) where
   -- its header is refused for its stamp alone
-  for-its-stamp : (all : List Kept) → KeepsSlice (job_in job) functions number items all → (e : SliceError)
+  for-its-stamp : (all : List CheckpointBytes) → KeepsSlice (job_in job) functions number items all → (e : SliceError)
       → IsRefusedBy (own_header job number items) (kept_stamps job) all e → e ≡ slice.OtherStamp
   for-its-stamp [] keeps e c = absurd c
   for-its-stamp (first ∷ later) keeps e c =
       let begins = header (job_in job) functions number items first later keeps in
       own (job_in job) functions number items first later (limits_in job.limits) job.stamp.now (kept_stamps job) e begins (c begins.header begins.header_kept)
 
-  own_cause : (all : List Kept) → KeepsSlice (job_in job) functions number items all → (e : SliceRunError) → IsResumeCause job f number items all e → IsOwnCause job f number items all e
+  own_cause : (all : List CheckpointBytes) → KeepsSlice (job_in job) functions number items all → (e : SliceRunError) → IsResumeCause job f number items all e → IsOwnCause job f number items all e
   own_cause all keeps (run.Checkpoints (slice.OtherJob part)) c =
       let is : slice.OtherJob part ≡ slice.OtherStamp = for-its-stamp all keeps (slice.OtherJob part) c in let none : ⊥ = cc in none
   own_cause all keeps (run.Checkpoints slice.OtherSlice) c =
@@ -49,18 +49,18 @@ module _ (header : SlicesBeginWithHeaders) (own : OwnSlicesAreTakenUp) (job : Sl
   own_cause all keeps (run.Step why) c = c
   own_cause all keeps run.TooMany c = c
 
-  pub taken_ends : (old new : State) (all : List Kept) → KeepsSlice (job_in job) functions number items all → (e : DurableError) → IsUntaken job f number items old new all e
-      → IsCauseOfNoEnd job (work_of job functions f number items) old new all e
-  taken_ends old new all so (Store e) c = by_length (HasALongOne (work_of job functions f number items)) old new e c
+  pub taken_ends : (old new : State) (all : List CheckpointBytes) → KeepsSlice (job_in job) functions number items all → (e : DurableError) → IsUntaken job f number items old new all e
+      → IsCauseOfNoEnd job (slice_input_of job functions f number items) old new all e
+  taken_ends old new all so (Store e) c = by_length (HasALongOne (slice_input_of job functions f number items)) old new e c
   taken_ends old new all so (Run e) c = inl (own_cause all so e c)
   taken_ends old new all so TooMany c = record { all = all; so_far = so; full = omega (arith, c) }
   taken_ends old new all so Stopped c = tt
 
 -- ---- of a slice that was resumed
 
-module _ (w : SliceWork) (old mid new : State) (before : old.faults ≤ mid.faults) (after : mid.faults ≤ new.faults)
+module _ (w : SliceInput) (old mid new : State) (before : old.faults ≤ mid.faults) (after : mid.faults ≤ new.faults)
     (shut : IsTrue old.is_open → IsTrue mid.is_open ⊎ MoreFaults old.faults mid.faults) where
-  pub gone_ends : (job : SliceJob) (all : List Kept) (e : DurableError) → IsGoneCause w mid new e → IsCauseOfNoEnd job w old new all e
+  pub gone_ends : (job : SliceJob) (all : List CheckpointBytes) (e : DurableError) → IsGoneCause w mid new e → IsCauseOfNoEnd job w old new all e
   gone_ends job all (Store e) c = since old mid new before after shut (HasALongOne w) e c
   gone_ends job all (Run e) c = inr c
   gone_ends job all TooMany c = c
@@ -74,7 +74,7 @@ module _ (w : SliceWork) (old mid new : State) (before : old.faults ≤ mid.faul
 
   -- ---- of a slice whose intervals ended
 
-  pub unended_ends : (job : SliceJob) (all : List Kept) (is_cut : Type 0) → (is_cut → HasEachNumber w) → (e : DurableError) → IsUnended is_cut e → IsCauseOfNoEnd job w old new all e
+  pub unended_ends : (job : SliceJob) (all : List CheckpointBytes) (is_cut : Type 0) → (is_cut → HasEachNumber w) → (e : DurableError) → IsUnended is_cut e → IsCauseOfNoEnd job w old new all e
   unended_ends job all is_cut full (Store e) c = absurd c
   unended_ends job all is_cut full (Run (run.Checkpoints (slice.OtherJob part))) c = absurd c
   unended_ends job all is_cut full (Run (run.Checkpoints slice.OtherSlice)) c = absurd c
@@ -92,7 +92,7 @@ module _ (w : SliceWork) (old mid new : State) (before : old.faults ≤ mid.faul
 -- ---- none is a refusal of what is kept
 
 -- neither that an interval has no checkpoint
-pub interval_own : (e : SliceRunError) → IsOfInterval e → IsRefusal (Run e) → ⊥
+pub interval_own : (e : SliceRunError) → IsIntervalError e → IsRefusal (Run e) → ⊥
 interval_own (run.Checkpoints (slice.OtherJob part)) own is = own
 interval_own (run.Checkpoints slice.OtherSlice) own is = own
 interval_own (run.Checkpoints slice.OtherItems) own is = own

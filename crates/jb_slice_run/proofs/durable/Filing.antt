@@ -5,17 +5,17 @@ use Rattle.sqlite.specs.State.{State}
 use Rattle.jb_slice_file.specs.ListEnd.{IsEndOf, count_of}
 use Rattle.jb_slice_file.specs.Rows.{HasNumber, IsTooLong}
 use Rattle.jb_slice_file.specs.declared.list_end.ListEnd.{ListEnd}
-use Rattle.jb_slice_file.specs.Kept.{Kept}
-use Rattle.jb_slice_file.specs.Errors.{IsCaused, IsOfTheList, IsOpenCause}
+use Rattle.jb_slice_file.specs.CheckpointBytes.{CheckpointBytes}
+use Rattle.jb_slice_file.specs.Errors.{IsCaused, IsListRefusal, IsOpenCause}
 use Rattle.jb_slice_file.specs.declared.error.StoreError.{StoreError}
 use Rattle.jb_slice_file.specs.declared.error.StoreError.TheVariants as named
 use Rattle.jb_slices.specs.Function.{Function}
 use Rattle.jb_slice_run.specs.declared.job.SliceJob.{SliceJob}
-use Rattle.jb_slice_run.specs.durable.Work.{SliceWork, SoFar}
+use Rattle.jb_slice_run.specs.durable.Work.{SliceInput, SoFar}
 use Rattle.jb_slice_run.specs.durable.Refusals.{IsFileCause, IsGoneCause, IsUntaken, store_refusal}
 
 -- where its list isn't taken
-pub unlisted : (job : SliceJob) (f : Function) (number : ℕ) (items : List (List ℕ)) (old new : State) (all : List Kept) (e : StoreError) → (IsOfTheList e → ⊥) → IsOpenCause old new e
+pub unlisted : (job : SliceJob) (f : Function) (number : ℕ) (items : List (List ℕ)) (old new : State) (all : List CheckpointBytes) (e : StoreError) → (IsListRefusal e → ⊥) → IsOpenCause old new e
     → IsUntaken job f number items old new all (store_refusal e)
 unlisted job f k items old new all named.Foreign never c = never (inl refl)
 unlisted job f k items old new all named.Version never c = never (inr (inl refl))
@@ -34,7 +34,7 @@ unlisted job f k items old new all named.Memory never c = tt
 unlisted job f k items old new all (named.Sql e) never c = tt
 
 -- where it doesn't take the next one
-pub untaken : (w : SliceWork) (old new : State) (all : List Kept) (next : Kept) (end : ListEnd) → IsEndOf end all → SoFar w all
+pub untaken : (w : SliceInput) (old new : State) (all : List CheckpointBytes) (next : CheckpointBytes) (end : ListEnd) → IsEndOf end all → SoFar w all
     → SoFar w (all ++ next ∷ []) → (e : StoreError) → IsCaused old new (HasNumber all (count_of end + 1)) (IsTooLong next) (2 ^ 32 - 1 ≤ count_of end) e → IsGoneCause w old new (store_refusal e)
 untaken w old new all next end is whole so named.Foreign c = c
 untaken w old new all next end is whole so named.Version c = c

@@ -2,7 +2,7 @@
 use Rattle.std.specs.Prelude.{ℕ, ◌≡◌, ◌⊎◌, ◌≤◌, ◌<◌, ◌-◌, ◌^◌, false, List, [], ◌∷◌, ◌++◌, length, ⊤}
 use Rattle.sqlite_disk.specs.Disk.{MoreFaults}
 use Rattle.sqlite.specs.State.{State}
-use Rattle.jb_slice_file.specs.Kept.{Kept}
+use Rattle.jb_slice_file.specs.CheckpointBytes.{CheckpointBytes}
 use Rattle.jb_slice_file.specs.Rows.{IsTooLong}
 use Rattle.jb_slice_file.specs.declared.error.StoreError.{StoreError}
 use Rattle.jb_slice_file.specs.declared.error.StoreError.TheVariants as store
@@ -12,7 +12,7 @@ use Rattle.jb_slice_run.specs.declared.error.SliceError.TheVariants as slice
 use Rattle.jb_slice_run.specs.declared.job.SliceJob.{SliceJob}
 use Rattle.jb_slice_run.specs.declared.run_error.SliceRunError.{SliceRunError}
 use Rattle.jb_slice_run.specs.declared.run_error.SliceRunError.TheVariants.{Checkpoints}
-use Rattle.jb_slice_run.specs.durable.Work.{SliceWork, SoFar}
+use Rattle.jb_slice_run.specs.durable.Work.{SliceInput, SoFar}
 use Rattle.jb_slice_run.specs.declared.durable.error.DurableError.{DurableError}
 use Rattle.jb_slice_run.specs.declared.durable.error.DurableError.TheVariants.{Run, Stopped, Store, TooMany}
 
@@ -21,7 +21,7 @@ abbrev pub store_refusal : StoreError → DurableError
 store_refusal store.TooMany = TooMany
 store_refusal e = Store e
 
--- A REFUSAL OF WHAT IS KEPT: it is another job's or slice's, of other items or of another stamp, it has a higher limit, or it is damaged
+-- A REFUSAL OF THE STORED CHECKPOINTS: they are of another job, slice, stamp or other items, have a higher limit, or are damaged
 abbrev pub IsRefusal : DurableError → Type 0
 IsRefusal (Store e) = ⊥
 IsRefusal (Run (Checkpoints slice.TooLong)) = ⊥
@@ -33,8 +33,9 @@ IsRefusal Stopped = ⊥
 
 -- ---- the file
 
--- Why the file doesn't list its checkpoints, or doesn't take one more: a call of the disk has failed since, the connection was shut
--- before, or the checkpoint is too long. The refusals of a file of another kind don't come where it shows its checkpoints.
+-- Why the file doesn't list its checkpoints, or doesn't take one more. A call of the disk has failed since, the connection was shut before, or
+-- the checkpoint is too long. Out of memory and other reasons of SQLite may come too. A file that shows its checkpoints isn't refused as one of
+-- another kind.
 abbrev pub IsFileCause : State → State → (is_too_long : Type 0) → StoreError → Type 0
 IsFileCause old new is_too_long store.Foreign = ⊥
 IsFileCause old new is_too_long store.Version = ⊥
@@ -53,28 +54,28 @@ IsFileCause old new is_too_long store.Memory = ⊤
 IsFileCause old new is_too_long (store.Sql e) = ⊤
 
 -- a checkpoint of the slice so far is longer than a row of the table may be
-pub record HasALongOne (w : SliceWork) : Type 0 where
-  pub before : List Kept
-  pub next : Kept
+pub record HasALongOne (w : SliceInput) : Type 0 where
+  pub before : List CheckpointBytes
+  pub next : CheckpointBytes
   pub so_far : SoFar w (before ++ next ∷ [])
   pub long : IsTooLong next
 
--- the slice so far has each number that a checkpoint may have
-pub record HasEachNumber (w : SliceWork) : Type 0 where
-  pub all : List Kept
+-- the slice so far has used each number that a checkpoint may have
+pub record HasEachNumber (w : SliceInput) : Type 0 where
+  pub all : List CheckpointBytes
   pub so_far : SoFar w all
   pub full : 2 ^ 32 - 1 ≤ length all
 
 -- ---- the run
 
--- after these checkpoints of the slice so far an interval has none, for this reason
-pub record HasNoInterval (w : SliceWork) (e : SliceRunError) : Type 0 where
-  pub all : List Kept
+-- the next interval after some checkpoints of the slice so far has no checkpoint, for this reason
+pub record HasNoInterval (w : SliceInput) (e : SliceRunError) : Type 0 where
+  pub all : List CheckpointBytes
   pub so_far : SoFar w all
   pub cause : IsIntervalCause w.job w.functions w.number w.items all e
 
 -- a slice of our own is refused for its stamp, or for a limit
-abbrev pub IsOwnCause : SliceJob → Function → (number : ℕ) → (items : List (List ℕ)) → List Kept → SliceRunError → Type 0
+abbrev pub IsOwnCause : SliceJob → Function → (number : ℕ) → (items : List (List ℕ)) → List CheckpointBytes → SliceRunError → Type 0
 IsOwnCause job f number items all (Checkpoints (slice.OtherJob part)) = ⊥
 IsOwnCause job f number items all (Checkpoints slice.OtherSlice) = ⊥
 IsOwnCause job f number items all (Checkpoints slice.OtherItems) = ⊥
@@ -83,28 +84,28 @@ IsOwnCause job f number items all e = IsResumeCause job f number items all e
 
 -- ---- all of them
 
--- why a slice isn't resumed: the file doesn't list its checkpoints, or has more than numbers for them, or these are refused
-abbrev pub IsUntaken : SliceJob → Function → (number : ℕ) → (items : List (List ℕ)) → (old new : State) → List Kept → DurableError → Type 0
+-- why a slice isn't resumed: the file doesn't list its checkpoints, has more of them than there are numbers, or they are refused
+abbrev pub IsUntaken : SliceJob → Function → (number : ℕ) → (items : List (List ℕ)) → (old new : State) → List CheckpointBytes → DurableError → Type 0
 IsUntaken job f number items old new all (Store e) = IsFileCause old new ⊥ e
 IsUntaken job f number items old new all (Run e) = IsResumeCause job f number items all e
 IsUntaken job f number items old new all TooMany = 2 ^ 32 - 1 < length all
 IsUntaken job f number items old new all Stopped = ⊥
 
 -- why a slice that was resumed has no end: an interval has no checkpoint, the file doesn't take it, or there is no number for it
-abbrev pub IsGoneCause : SliceWork → (old new : State) → DurableError → Type 0
+abbrev pub IsGoneCause : SliceInput → (old new : State) → DurableError → Type 0
 IsGoneCause w old new (Store e) = IsFileCause old new (HasALongOne w) e
 IsGoneCause w old new (Run e) = HasNoInterval w e
 IsGoneCause w old new TooMany = HasEachNumber w
 IsGoneCause w old new Stopped = ⊥
 
--- WHY A SLICE SO FAR HAS NO END. That it was stopped has one cause only, which no contract sees: an onlooker said so.
-abbrev pub IsCauseOfNoEnd : SliceJob → SliceWork → (old new : State) → List Kept → DurableError → Type 0
+-- WHY A SLICE SO FAR HAS NO END. `Stopped` has one cause only, which no contract sees: a listener stopped it.
+abbrev pub IsCauseOfNoEnd : SliceJob → SliceInput → (old new : State) → List CheckpointBytes → DurableError → Type 0
 IsCauseOfNoEnd job w old new all (Store e) = IsFileCause old new (HasALongOne w) e
 IsCauseOfNoEnd job w old new all (Run e) = IsOwnCause job w.f w.number w.items all e ⊎ HasNoInterval w e
 IsCauseOfNoEnd job w old new all TooMany = HasEachNumber w
 IsCauseOfNoEnd job w old new all Stopped = ⊤
 
--- why a slice whose intervals ended has no end: there was no memory, or they were cut off or stopped
+-- why a slice whose intervals ended has no end: it was out of memory, or they were cut off or stopped
 abbrev pub IsUnended : (is_cut : Type 0) → DurableError → Type 0
 IsUnended is_cut (Store e) = ⊥
 IsUnended is_cut (Run (Checkpoints slice.Memory)) = ⊤

@@ -1,11 +1,11 @@
--- What a run of a slice is of, and where its work stands over a connection.
+-- What a run of a slice works on, and where its work is over a connection.
 use Rattle.std.specs.Prelude.{ℕ, Bool, List, IsTrue, ◌≡◌}
 use Rattle.sqlite.specs.State.{HasCleanDisk, State}
-use Rattle.jb_records.specs.Shares.{AreAtTheirEnds}
-use Rattle.jb_records.specs.Stretches.{RunState}
+use Rattle.jb_records.specs.PartitionResults.{AreAtTheirEnds}
+use Rattle.jb_records.specs.Intervals.{RunState}
 use Rattle.jb_rules.specs.declared.row.Row.{Row}
 use Rattle.jb_slice_file.specs.Connections.{IsJustOpened, Keeps}
-use Rattle.jb_slice_file.specs.Kept.{Kept}
+use Rattle.jb_slice_file.specs.CheckpointBytes.{CheckpointBytes}
 use Rattle.jb_slice_file.specs.ListEnd.{IsEndOf}
 use Rattle.jb_slice_file.specs.Rows.{Has, ShowsList}
 use Rattle.jb_slice_file.specs.declared.list_end.ListEnd.{ListEnd}
@@ -14,19 +14,19 @@ use Rattle.jb_slices.specs.Job.{Job, Limits}
 use Rattle.jb_slices.specs.Slice.{Functions}
 use Rattle.jb_slice_run.specs.Held.{limits_in}
 use Rattle.jb_slice_run.specs.Jobs.{job_in, stamps_in}
-use Rattle.jb_slice_run.specs.Kept.{KeepsSlice}
+use Rattle.jb_slice_run.specs.SliceBytes.{KeepsSlice}
 use Rattle.jb_slice_run.specs.Named.{Faults, HoldsFaults}
-use Rattle.jb_slice_run.specs.Step.{AreOf}
+use Rattle.jb_slice_run.specs.Step.{AreStampsOf}
 use Rattle.jb_slice_run.specs.Whole.{KeepsFailed, KeepsWhole}
-use Rattle.jb_slice_run.specs.Work.{GoesBy, IsRunDone, IsTold, SliceStandsAt}
+use Rattle.jb_slice_run.specs.Work.{GoesBy, IsRunDone, StatusMatchesRows, SliceStandsAt}
 use Rattle.jb_slice_run.specs.declared.job.SliceJob.{SliceJob}
-use Rattle.jb_slice_run.specs.declared.place.Stage.{Stage}
-use Rattle.jb_slice_run.specs.declared.place.Stage.TheVariants.{Underway}
-use Rattle.jb_slice_run.specs.declared.durable.pause.Pause.{Pause}
-use Rattle.jb_slice_run.specs.declared.durable.pause.Pause.TheVariants.{Failed, Whole}
+use Rattle.jb_slice_run.specs.declared.resumable_run.Stage.{Stage}
+use Rattle.jb_slice_run.specs.declared.resumable_run.Stage.TheVariants.{SomeIntervals}
+use Rattle.jb_slice_run.specs.declared.durable.loop_end.LoopEnd.{LoopEnd}
+use Rattle.jb_slice_run.specs.declared.durable.loop_end.LoopEnd.TheVariants.{Failed, Whole}
 
--- what a run is of: its job and limits, its function beside that of each stamp, and the slice's number and items
-pub record SliceWork : Type 0 where
+-- what a run works on: its job and limits, its function and that of each stamp, and the slice's number and items
+pub record SliceInput : Type 0 where
   pub job : Job
   pub functions : Functions
   pub f : Function
@@ -34,50 +34,50 @@ pub record SliceWork : Type 0 where
   pub number : ℕ
   pub items : List (List ℕ)
 
-abbrev pub work_of : SliceJob → Functions → Function → (number : ℕ) → (items : List (List ℕ)) → SliceWork
-work_of j functions f number items = record { job = job_in j; functions = functions; f = f; limits = limits_in j.limits; number = number; items = items }
+abbrev pub slice_input_of : SliceJob → Functions → Function → (number : ℕ) → (items : List (List ℕ)) → SliceInput
+slice_input_of j functions f number items = record { job = job_in j; functions = functions; f = f; limits = limits_in j.limits; number = number; items = items }
 
--- these checkpoints keep its slice so far, or whole, or failed by its limits
-abbrev pub SoFar : SliceWork → List Kept → Type 0
+-- these checkpoints store its slice so far, or whole, or failed under its limits
+abbrev pub SoFar : SliceInput → List CheckpointBytes → Type 0
 SoFar w all = KeepsSlice w.job w.functions w.number w.items all
 
-abbrev pub IsWhole : SliceWork → List Kept → Type 0
+abbrev pub IsWhole : SliceInput → List CheckpointBytes → Type 0
 IsWhole w all = KeepsWhole w.job w.functions w.limits w.number w.items all
 
-abbrev pub IsFailed : SliceWork → List Kept → Type 0
+abbrev pub IsFailed : SliceInput → List CheckpointBytes → Type 0
 IsFailed w all = KeepsFailed w.job w.functions w.limits w.number w.items all
 
 -- ---- WHAT A CALL FINDS
 
 -- a connection that was just opened shows these checkpoints, and its disk is clean to the end of the call
-pub record IsShown (old new : State) (all : List Kept) : Type 0 where
+pub record IsShown (old new : State) (all : List CheckpointBytes) : Type 0 where
   pub clean : HasCleanDisk new
   pub opened : IsJustOpened old
   pub shows : ShowsList old.now all
 
-abbrev pub IfShown : (old new : State) → (List Kept → Type 0) → Type 0
-IfShown old new Holds = (all : List Kept) → IsShown old new all → Holds all
+abbrev pub IfShown : (old new : State) → (List CheckpointBytes → Type 0) → Type 0
+IfShown old new Holds = (all : List CheckpointBytes) → IsShown old new all → Holds all
 
--- they are those of the slice so far, for a meaning of stamps by which the job's own are of this function
-pub record IsResumed (w : SliceWork) (stamps : List (List ℕ)) (old new : State) (all : List Kept) : Type 0 where
+-- they are those of the slice so far, for a meaning of stamps that gives this function to the job's own stamps
+pub record IsResumed (w : SliceInput) (stamps : List (List ℕ)) (old new : State) (all : List CheckpointBytes) : Type 0 where
   pub shown : IsShown old new all
-  pub stamps_are : AreOf w.functions w.f stamps
+  pub stamps_are : AreStampsOf w.functions w.f stamps
   pub so_far : SoFar w all
 
--- WHERE A SLICE IS RESUMED, whatever the stamps of others mean: this holds of its work and of its checkpoints
-abbrev pub IfResumed : SliceJob → Function → (number : ℕ) → (items : List (List ℕ)) → (old new : State) → (SliceWork → List Kept → Type 0) → Type 0
+-- IF A SLICE IS RESUMED, this holds for its input and its checkpoints, for any meaning of other stamps
+abbrev pub IfResumed : SliceJob → Function → (number : ℕ) → (items : List (List ℕ)) → (old new : State) → (SliceInput → List CheckpointBytes → Type 0) → Type 0
 IfResumed job f number items old new Holds =
-    (functions : Functions) (all : List Kept) → IsResumed (work_of job functions f number items) (stamps_in job) old new all → Holds (work_of job functions f number items) all
+    (functions : Functions) (all : List CheckpointBytes) → IsResumed (slice_input_of job functions f number items) (stamps_in job) old new all → Holds (slice_input_of job functions f number items) all
 
--- where the database that was opened has them, this holds
-abbrev pub IfHad : SliceJob → Function → (number : ℕ) → (items : List (List ℕ)) → (old new : State) → (SliceWork → List Kept → Type 0) → Type 0
+-- if the database that was opened has checkpoints of the slice so far, this holds
+abbrev pub IfHad : SliceJob → Function → (number : ℕ) → (items : List (List ℕ)) → (old new : State) → (SliceInput → List CheckpointBytes → Type 0) → Type 0
 IfHad job f number items old new Holds =
-    HasCleanDisk new → IsJustOpened old → (functions : Functions) → AreOf functions f (stamps_in job) → (all : List Kept) → Has old.now.trees all
-    → SoFar (work_of job functions f number items) all → Holds (work_of job functions f number items) all
+    HasCleanDisk new → IsJustOpened old → (functions : Functions) → AreStampsOf functions f (stamps_in job) → (all : List CheckpointBytes) → Has old.now.trees all
+    → SoFar (slice_input_of job functions f number items) all → Holds (slice_input_of job functions f number items) all
 
 -- ---- WHERE THE WORK STANDS
 
--- what contracts see of a slice's place in memory
+-- what contracts see of a slice's run in memory
 pub record Seen : Type 0 where
   pub has_failed : Bool
   pub stage : Stage
@@ -85,16 +85,16 @@ pub record Seen : Type 0 where
   pub rows : List Row
   pub faults : List Faults
 
--- what its rows tell; and that nothing is left to be run
-abbrev pub IsSeenTold : Seen → Type 0
-IsSeenTold at = IsTold at.has_failed at.stage at.run at.rows
+-- its status matches its rows; and nothing is left to run
+abbrev pub SeenMatchesRows : Seen → Type 0
+SeenMatchesRows at = StatusMatchesRows at.has_failed at.stage at.run at.rows
 
 abbrev pub IsSeenDone : Seen → Type 0
 IsSeenDone at = IsRunDone at.has_failed at.stage at.run
 
--- The connection keeps the checkpoints of the slice so far, which end here, and the work stands after them, with their faults. Where it has
--- failed the last one has the call's limits.
-pub record IsAtRest (w : SliceWork) (s : State) (at : Seen) (end : ListEnd) (all : List Kept) : Type 0 where
+-- The connection holds the checkpoints of the slice so far, which end here. The run in memory is after them, and has their faults. If the slice has
+-- failed, the last checkpoint has the call's limits.
+pub record FileMatchesMemory (w : SliceInput) (s : State) (at : Seen) (end : ListEnd) (all : List CheckpointBytes) : Type 0 where
   pub keeps : Keeps s all
   pub so_far : SoFar w all
   pub place : SliceStandsAt w.job w.functions w.f w.limits w.number w.items at.stage at.run at.rows all
@@ -102,28 +102,28 @@ pub record IsAtRest (w : SliceWork) (s : State) (at : Seen) (end : ListEnd) (all
   pub by : IsTrue at.has_failed → GoesBy w.limits all
   pub ends : IsEndOf end all
 
--- where it rests so as a call begins, this holds
-abbrev pub IfAtRest : SliceJob → Function → (number : ℕ) → (items : List (List ℕ)) → (old new : State) → Seen → ListEnd → (SliceWork → List Kept → Type 0) → Type 0
-IfAtRest job f number items old new at end Holds =
-    HasCleanDisk new → (functions : Functions) (all : List Kept) → IsAtRest (work_of job functions f number items) old at end all → Holds (work_of job functions f number items) all
+-- if the file matches the memory as a call begins, this holds
+abbrev pub IfFileMatchesMemory : SliceJob → Function → (number : ℕ) → (items : List (List ℕ)) → (old new : State) → Seen → ListEnd → (SliceInput → List CheckpointBytes → Type 0) → Type 0
+IfFileMatchesMemory job f number items old new at end Holds =
+    HasCleanDisk new → (functions : Functions) (all : List CheckpointBytes) → FileMatchesMemory (slice_input_of job functions f number items) old at end all → Holds (slice_input_of job functions f number items) all
 
 -- ---- WHERE THE INTERVALS ENDED
 
--- where each partition is at its end that is kept; where one has failed each has ended
-pub record IsPausedTold (at : Seen) (pause : Pause) : Type 0 where
-  pub told : IsSeenTold at
-  pub settled : pause ≡ Whole → at.stage ≡ Underway
-  pub finished : pause ≡ Whole → AreAtTheirEnds at.run.setup.rows
-  pub failed : pause ≡ Failed → IsTrue at.has_failed
+-- If the intervals ended with `Whole`, each partition is at its end, and an interval is stored. If they ended with `Failed`, the slice has failed.
+pub record LoopEndMatchesRows (at : Seen) (loop_end : LoopEnd) : Type 0 where
+  pub agrees : SeenMatchesRows at
+  pub settled : loop_end ≡ Whole → at.stage ≡ SomeIntervals
+  pub finished : loop_end ≡ Whole → AreAtTheirEnds at.run.setup.rows
+  pub failed : loop_end ≡ Failed → IsTrue at.has_failed
 
--- the work stands after these checkpoints, with their faults, and they are a whole slice's if the intervals ended for that
-pub record StandsPaused (w : SliceWork) (at : Seen) (pause : Pause) (all : List Kept) : Type 0 where
+-- the run in memory is after these checkpoints, with their faults; they store a whole slice if the intervals ended with `Whole`
+pub record StandsPaused (w : SliceInput) (at : Seen) (loop_end : LoopEnd) (all : List CheckpointBytes) : Type 0 where
   pub place : SliceStandsAt w.job w.functions w.f w.limits w.number w.items at.stage at.run at.rows all
   pub faults : HoldsFaults at.faults all
   pub by : IsTrue at.has_failed → GoesBy w.limits all
-  pub whole : pause ≡ Whole → IsWhole w all
+  pub whole : loop_end ≡ Whole → IsWhole w all
 
--- the work rests there, and what is kept is a whole slice if the intervals ended for that
-pub record HasPaused (w : SliceWork) (s : State) (at : Seen) (pause : Pause) (end : ListEnd) (all : List Kept) : Type 0 where
-  pub rests : IsAtRest w s at end all
-  pub whole : pause ≡ Whole → IsWhole w all
+-- the file matches the memory; the stored slice is whole if the intervals ended with `Whole`
+pub record HasLoopEnded (w : SliceInput) (s : State) (at : Seen) (loop_end : LoopEnd) (end : ListEnd) (all : List CheckpointBytes) : Type 0 where
+  pub rests : FileMatchesMemory w s at end all
+  pub whole : loop_end ≡ Whole → IsWhole w all

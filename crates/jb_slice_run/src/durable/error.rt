@@ -7,26 +7,26 @@ ghost use Rattle.jb_slice_run.specs.durable.Refusals.{store_refusal};
 ghost use Rattle.jb_slice_run.specs.durable.Texts.{durable_error_text};
 ghost use Rattle.jb_slice_run.specs.declared.durable.error.DurableError.TheVariants.{Run};
 
-use jb_slice_file::StoreError;
 use crate::{SliceError, SliceRunError};
+use jb_slice_file::StoreError;
 use std::alloc::{AllocError, AllocFailed};
 use std::fmt;
 use thiserror::Error;
 
-/// Why a slice's run has no end in its file. What is kept stays: a next life resumes it.
+/// Why a slice's run has no end in its file. The stored checkpoints stay, and the next process run resumes after them.
 #[derive(Clone, Copy, Debug, PartialEq, Eq, Error)]
 pub enum DurableError {
-    /// The file. After `Foreign`, `Version`, `Gap` and `Altered` it is as it was.
+    /// A fault of the file. After `Foreign`, `Version`, `Gap` and `Altered` the file is as it was.
     Store(StoreError),
-    /// The slice isn't resumed, and nothing was written; or an interval broke off.
+    /// The slice isn't resumed, and no checkpoint was written; or an interval broke off.
     Run(SliceRunError),
     /// There are 4,294,967,295 checkpoints.
     TooMany,
-    /// The onlooker said that it doesn't go on.
+    /// The listener stopped it.
     Stopped,
 }
 
-/// What is wrong, in a few words: those of the file's fault and of the run's where it is one of these.
+/// A short message. A fault of the file or of the run gives its own.
 impl fmt::Display for DurableError {
     ghost output = { durable_error_text };
 

@@ -1,4 +1,4 @@
-//! Interval after interval, each kept before the next begins.
+//! Interval after interval, each stored before the next begins.
 
 ghost use Rattle.std.specs.Prelude.{◌≡◌, ◌≤◌, ◌⊎◌, ◌+◌, List, IfErr, IfOk, IsTrue, MatchResult, false, true};
 ghost use Rattle.std.specs.Arc.{arc_value};
@@ -6,31 +6,31 @@ ghost use Rattle.sqlite.specs.Held.{state};
 ghost use Rattle.sqlite.specs.State.{HasCleanDisk};
 ghost use Rattle.sqlite_disk.specs.Disk.{MoreFaults};
 ghost use Rattle.sqlite_trees.specs.View.{doubt};
-ghost use Rattle.jb_records.specs.Shares.{AreAtTheirEnds};
-ghost use Rattle.jb_slice_file.specs.Files.{IsOfARun};
-ghost use Rattle.jb_slice_file.specs.Kept.{Kept};
+ghost use Rattle.jb_records.specs.PartitionResults.{AreAtTheirEnds};
+ghost use Rattle.jb_slice_file.specs.Files.{HasRunCheckpoints};
+ghost use Rattle.jb_slice_file.specs.CheckpointBytes.{CheckpointBytes};
 ghost use Rattle.jb_slice_file.specs.ListEnd.{count_of};
 ghost use Rattle.jb_slice_file.specs.declared.list_end.ListEnd.{ListEnd as FileEnd};
-ghost use Rattle.jb_slice_run.specs.declared.place.Stage.TheVariants.{Underway};
+ghost use Rattle.jb_slice_run.specs.declared.resumable_run.Stage.TheVariants.{SomeIntervals};
 ghost use Rattle.jb_slice_run.specs.durable.Refusals.{IsGoneCause, IsRefusal};
-ghost use Rattle.jb_slice_run.specs.durable.Work.{HasPaused, IfAtRest, IsAtRest, IsPausedTold, IsSeenDone, IsSeenTold, IsWhole, SoFar};
-ghost use Rattle.jb_slice_run.specs.declared.durable.pause.Pause.TheVariants.{Intervals, Whole};
+ghost use Rattle.jb_slice_run.specs.durable.Work.{HasLoopEnded, IfFileMatchesMemory, FileMatchesMemory, LoopEndMatchesRows, IsSeenDone, SeenMatchesRows, IsWhole, SoFar};
+ghost use Rattle.jb_slice_run.specs.declared.durable.loop_end.LoopEnd.TheVariants.{Intervals, Whole};
 
 use crate::durable::error::DurableError;
-use crate::durable::onlooker::{Onlooker, progress_of};
-use crate::durable::pause::Pause;
+use crate::durable::listener::{ProgressListener, progress_of};
+use crate::durable::loop_end::LoopEnd;
 use crate::durable::seen::{Placed, is_whole};
+use crate::{Pace, ResumableRun, SliceJob, Stage};
 use jb_base::PackedList;
 use jb_rows::RowFunction;
 use jb_rules::Row;
 use jb_slice_file::{ListEnd, append};
-use crate::{Pace, SliceJob, SlicePlace, Stage};
 use sqlite::{Alter, Connection};
 use std::alloc::Global;
 use std::sync::{Arc, Wait};
 use std::thread::Threads;
 
-/// One checkpoint more, kept in the database; false if the slice was whole.
+/// One checkpoint more, stored in the database; false if the slice was whole.
 fn advance<F: RowFunction + Drop + 'static, R: Threads + Wait + Sync, S: Alter>(
     rt: &R,
     alloc: Global,
@@ -39,25 +39,25 @@ fn advance<F: RowFunction + Drop + 'static, R: Threads + Wait + Sync, S: Alter>(
     number: u64,
     function: &Arc<F, Global>,
     items: &PackedList,
-    place: SlicePlace<F>,
+    place: ResumableRun<F>,
     rounds: u64,
     end: &mut ListEnd,
-) -> Result<(SlicePlace<F>, bool), DurableError>
-    ensures kept { place.has_failed ≡ false → IfAtRest job.now (F.answer (arc_value function.now)) number items.now (state S.Store conn.old) (state S.Store conn.new) (⟦<SlicePlace<F> as Placed>⟧.seen place) end.old (λ w all. IfOk result (λ r. (now : List Kept) × IsAtRest w (state S.Store conn.new) (⟦<SlicePlace<F> as Placed>⟧.seen r.0) end.new now × (r.1 ≡ false → IsWhole w now))) }
+) -> Result<(ResumableRun<F>, bool), DurableError>
+    ensures kept { place.has_failed ≡ false → IfFileMatchesMemory job.now (F.answer (arc_value function.now)) number items.now (state S.Store conn.old) (state S.Store conn.new) (⟦<ResumableRun<F> as Placed>⟧.seen place) end.old (λ w all. IfOk result (λ r. (now : List CheckpointBytes) × FileMatchesMemory w (state S.Store conn.new) (⟦<ResumableRun<F> as Placed>⟧.seen r.0) end.new now × (r.1 ≡ false → IsWhole w now))) }
     ensures own { IfErr result (λ e. IsRefusal e → ⊥) }
-    ensures cause { IfAtRest job.now (F.answer (arc_value function.now)) number items.now (state S.Store conn.old) (state S.Store conn.new) (⟦<SlicePlace<F> as Placed>⟧.seen place) end.old (λ w all. IfErr result (IsGoneCause w (state S.Store conn.old) (state S.Store conn.new))) }
+    ensures cause { IfFileMatchesMemory job.now (F.answer (arc_value function.now)) number items.now (state S.Store conn.old) (state S.Store conn.new) (⟦<ResumableRun<F> as Placed>⟧.seen place) end.old (λ w all. IfErr result (IsGoneCause w (state S.Store conn.old) (state S.Store conn.new))) }
     ensures counted { IfOk result (λ r. r.1 ≡ true → count_of end.new ≡ count_of end.old + 1) }
-    ensures settled { IfOk result (λ r. r.1 ≡ false → r.0.stage ≡ Underway) }
+    ensures settled { IfOk result (λ r. r.1 ≡ false → r.0.stage ≡ SomeIntervals) }
     ensures counts { (state S.Store conn.old).faults ≤ (state S.Store conn.new).faults }
     ensures shut { HasCleanDisk (state S.Store conn.new) → IsTrue (state S.Store conn.old).is_open
         → IsTrue (state S.Store conn.new).is_open ⊎ MoreFaults (state S.Store conn.old).faults (state S.Store conn.new).faults }
-    ensures whole { IfOk result (λ r. r.1 ≡ false → AreAtTheirEnds (⟦<SlicePlace<F> as Placed>⟧.seen r.0).run.setup.rows) }
-    ensures told { IsSeenTold (⟦<SlicePlace<F> as Placed>⟧.seen place) → IfOk result (λ r. IsSeenTold (⟦<SlicePlace<F> as Placed>⟧.seen r.0)) }
-    ensures again { IsSeenDone (⟦<SlicePlace<F> as Placed>⟧.seen place) → MatchResult result (λ r. r.1 ≡ false) (λ e. ⊥) × (conn.new ≡ conn.old) }
+    ensures whole { IfOk result (λ r. r.1 ≡ false → AreAtTheirEnds (⟦<ResumableRun<F> as Placed>⟧.seen r.0).run.setup.rows) }
+    ensures agrees { SeenMatchesRows (⟦<ResumableRun<F> as Placed>⟧.seen place) → IfOk result (λ r. SeenMatchesRows (⟦<ResumableRun<F> as Placed>⟧.seen r.0)) }
+    ensures again { IsSeenDone (⟦<ResumableRun<F> as Placed>⟧.seen place) → MatchResult result (λ r. r.1 ≡ false) (λ e. ⊥) × (conn.new ≡ conn.old) }
     ensures clean { doubt (state S.Store conn.old).is_clean ≤ doubt (state S.Store conn.new).is_clean }
-    ensures crash { IfAtRest job.now (F.answer (arc_value function.now)) number items.now (state S.Store conn.old) (state S.Store conn.new) (⟦<SlicePlace<F> as Placed>⟧.seen place) end.old (λ w all. (db : _) → (state S.Store conn.new).may_leave db → IsOfARun (SoFar w) db) }
+    ensures crash { IfFileMatchesMemory job.now (F.answer (arc_value function.now)) number items.now (state S.Store conn.old) (state S.Store conn.new) (⟦<ResumableRun<F> as Placed>⟧.seen place) end.old (λ w all. (db : _) → (state S.Store conn.new).may_leave db → HasRunCheckpoints (SoFar w) db) }
 {
-    let (place, next) = place.go_on(rt, alloc, job, number, &**function, items, rounds)?;
+    let (place, next) = place.next_checkpoint(rt, alloc, job, number, &**function, items, rounds)?;
     let Some(next) = next else {
         return Ok((place, false));
     };
@@ -65,8 +65,8 @@ fn advance<F: RowFunction + Drop + 'static, R: Threads + Wait + Sync, S: Alter>(
     Ok((place, true))
 }
 
-/// How many times as many rounds as the pace says the next interval takes: twice as many as before where a partition failed and no
-/// checkpoint of a partition moved. So those that fail again in each interval can't take all its rounds for ever.
+/// The next interval takes this many times the rounds that the pace says. The factor doubles if a partition failed and no partition's checkpoint
+/// moved. So partitions that fail again in each interval can't take all its rounds for ever.
 fn next_factor(factor: u64, before: u64, rows: &[Row]) -> u64 {
     let is_held_up = progress_of(rows, 0).done == before;
     if is_held_up && rows.iter().any(|row| row.state.is_failed()) {
@@ -76,30 +76,30 @@ fn next_factor(factor: u64, before: u64, rows: &[Row]) -> u64 {
     }
 }
 
-/// Reports how far the last checkpoint says that the slice is; and whether it stops there. It does if the onlooker says so, and it isn't whole.
-fn is_stopped<F: RowFunction + Drop, O: Onlooker>(
-    place: &SlicePlace<F>,
+/// Reports to the listener how far the slice is by its last checkpoint. True if the listener stops it there, and it isn't whole.
+fn is_stopped<F: RowFunction + Drop, O: ProgressListener>(
+    place: &ResumableRun<F>,
     items: usize,
-    onlooker: &mut O,
+    listener: &mut O,
 ) -> bool
-    ensures { IsTrue result → IsSeenDone (⟦<SlicePlace<F> as Placed>⟧.seen place.now) → ⊥ }
+    ensures { IsTrue result → IsSeenDone (⟦<ResumableRun<F> as Placed>⟧.seen place.now) → ⊥ }
 {
-    if !matches!(place.stage, Stage::Underway) {
+    if !matches!(place.stage, Stage::SomeIntervals) {
         return false;
     }
-    if onlooker.told(progress_of(&place.rows, items)) {
+    if listener.on_progress(progress_of(&place.rows, items)) {
         return false;
     }
     !is_whole(place)
 }
 
-/// So many checkpoints more, each kept before the next interval begins, until the slice is whole, or each partition has ended and one failed,
-/// or the onlooker says after a checkpoint that it doesn't go on.
+/// Adds at most `intervals` checkpoints. Each is stored before the next interval begins. It ends earlier in three cases: the slice is whole; each
+/// partition has ended and one failed; or the listener stops it after a checkpoint.
 /// The partitions that failed in an interval are tried again in the next one, beside those that are unfinished.
 pub(crate) fn run<
     F: RowFunction + Drop + 'static,
     P: Pace,
-    O: Onlooker,
+    O: ProgressListener,
     R: Threads + Wait + Sync,
     S: Alter,
 >(
@@ -110,33 +110,33 @@ pub(crate) fn run<
     number: u64,
     function: &Arc<F, Global>,
     items: &PackedList,
-    place: SlicePlace<F>,
+    place: ResumableRun<F>,
     end: ListEnd,
     intervals: u32,
     pace: &mut P,
-    onlooker: &mut O,
-) -> Result<(SlicePlace<F>, Pause), DurableError>
-    ensures kept { IfAtRest job.now (F.answer (arc_value function.now)) number items.now (state S.Store conn.old) (state S.Store conn.new) (⟦<SlicePlace<F> as Placed>⟧.seen place) end (λ w all. IfOk result (λ r. (now : List Kept) × (last : FileEnd) × HasPaused w (state S.Store conn.new) (⟦<SlicePlace<F> as Placed>⟧.seen r.0) r.1 last now × (r.1 ≡ Intervals → count_of last ≡ count_of end + intervals))) }
+    listener: &mut O,
+) -> Result<(ResumableRun<F>, LoopEnd), DurableError>
+    ensures kept { IfFileMatchesMemory job.now (F.answer (arc_value function.now)) number items.now (state S.Store conn.old) (state S.Store conn.new) (⟦<ResumableRun<F> as Placed>⟧.seen place) end (λ w all. IfOk result (λ r. (now : List CheckpointBytes) × (last : FileEnd) × HasLoopEnded w (state S.Store conn.new) (⟦<ResumableRun<F> as Placed>⟧.seen r.0) r.1 last now × (r.1 ≡ Intervals → count_of last ≡ count_of end + intervals))) }
     ensures own { IfErr result (λ e. IsRefusal e → ⊥) }
-    ensures cause { IfAtRest job.now (F.answer (arc_value function.now)) number items.now (state S.Store conn.old) (state S.Store conn.new) (⟦<SlicePlace<F> as Placed>⟧.seen place) end (λ w all. IfErr result (IsGoneCause w (state S.Store conn.old) (state S.Store conn.new))) }
+    ensures cause { IfFileMatchesMemory job.now (F.answer (arc_value function.now)) number items.now (state S.Store conn.old) (state S.Store conn.new) (⟦<ResumableRun<F> as Placed>⟧.seen place) end (λ w all. IfErr result (IsGoneCause w (state S.Store conn.old) (state S.Store conn.new))) }
     ensures counts { (state S.Store conn.old).faults ≤ (state S.Store conn.new).faults }
     ensures shut { HasCleanDisk (state S.Store conn.new) → IsTrue (state S.Store conn.old).is_open
         → IsTrue (state S.Store conn.new).is_open ⊎ MoreFaults (state S.Store conn.old).faults (state S.Store conn.new).faults }
-    ensures told { IsSeenTold (⟦<SlicePlace<F> as Placed>⟧.seen place) → IfOk result (λ r. IsPausedTold (⟦<SlicePlace<F> as Placed>⟧.seen r.0) r.1) }
-    ensures again { IsSeenDone (⟦<SlicePlace<F> as Placed>⟧.seen place) → 1 ≤ intervals → MatchResult result (λ r. r.1 ≡ Whole) (λ e. ⊥) × (conn.new ≡ conn.old) }
+    ensures agrees { SeenMatchesRows (⟦<ResumableRun<F> as Placed>⟧.seen place) → IfOk result (λ r. LoopEndMatchesRows (⟦<ResumableRun<F> as Placed>⟧.seen r.0) r.1) }
+    ensures again { IsSeenDone (⟦<ResumableRun<F> as Placed>⟧.seen place) → 1 ≤ intervals → MatchResult result (λ r. r.1 ≡ Whole) (λ e. ⊥) × (conn.new ≡ conn.old) }
     ensures clean { doubt (state S.Store conn.old).is_clean ≤ doubt (state S.Store conn.new).is_clean }
-    ensures crash { IfAtRest job.now (F.answer (arc_value function.now)) number items.now (state S.Store conn.old) (state S.Store conn.new) (⟦<SlicePlace<F> as Placed>⟧.seen place) end (λ w all. (db : _) → (state S.Store conn.new).may_leave db → IsOfARun (SoFar w) db) }
+    ensures crash { IfFileMatchesMemory job.now (F.answer (arc_value function.now)) number items.now (state S.Store conn.old) (state S.Store conn.new) (⟦<ResumableRun<F> as Placed>⟧.seen place) end (λ w all. (db : _) → (state S.Store conn.new).may_leave db → HasRunCheckpoints (SoFar w) db) }
 {
     let mut place = place;
     let mut end = end;
     let mut factor: u64 = 1;
     'intervals: for _ in 0..intervals {
-        let stops = is_stopped(&place, items.len(), onlooker);
+        let stops = is_stopped(&place, items.len(), listener);
         if place.has_failed {
-            return Ok((place, Pause::Failed));
+            return Ok((place, LoopEnd::Failed));
         }
         if stops {
-            return Ok((place, Pause::Stopped));
+            return Ok((place, LoopEnd::Stopped));
         }
         let rounds = pace.begin().saturating_mul(factor);
         let done = progress_of(&place.rows, items.len()).done;
@@ -145,10 +145,10 @@ pub(crate) fn run<
         )?;
         pace.end();
         if !more {
-            return Ok((next, Pause::Whole));
+            return Ok((next, LoopEnd::Whole));
         }
         factor = next_factor(factor, done, &next.rows);
         place = next;
     }
-    Ok((place, Pause::Intervals))
+    Ok((place, LoopEnd::Intervals))
 }

@@ -1,4 +1,4 @@
-//! Where a slice's run stands after the checkpoints of a database that was just opened.
+//! A slice's run after the checkpoints of a database that was just opened.
 
 ghost use Rattle.std.specs.Prelude.{◌≤◌, ◌⊎◌, List, length, IfErr, IfOk, IsTrue, OnOk};
 ghost use Rattle.std.specs.Arc.{arc_value};
@@ -7,24 +7,24 @@ ghost use Rattle.sqlite.specs.State.{HasCleanDisk};
 ghost use Rattle.sqlite_disk.specs.Disk.{MoreFaults};
 ghost use Rattle.sqlite_trees.specs.View.{doubt};
 ghost use Rattle.jb_slice_file.specs.Connections.{IsJustOpened, Keeps};
-ghost use Rattle.jb_slice_file.specs.Kept.{Kept};
+ghost use Rattle.jb_slice_file.specs.CheckpointBytes.{CheckpointBytes};
 ghost use Rattle.jb_slice_file.specs.Rows.{Has, ShowsList};
 ghost use Rattle.jb_slice_run.specs.Causes.{IsFirstOwn};
 ghost use Rattle.jb_slice_run.specs.Jobs.{kept_stamps, own_header};
 ghost use Rattle.jb_slice_run.specs.durable.Refusals.{IsRefusal, IsUntaken};
-ghost use Rattle.jb_slice_run.specs.durable.Work.{IfResumed, IfShown, IsAtRest, IsSeenDone, IsSeenTold, IsWhole};
+ghost use Rattle.jb_slice_run.specs.durable.Work.{IfResumed, IfShown, FileMatchesMemory, IsSeenDone, SeenMatchesRows, IsWhole};
 
 use crate::durable::error::DurableError;
 use crate::durable::seen::Placed;
+use crate::{ResumableRun, SliceJob, resume};
 use jb_base::PackedList;
 use jb_rows::RowFunction;
 use jb_slice_file::{ListEnd, begin};
-use crate::{SliceJob, SlicePlace, resume};
 use sqlite::{Alter, Connection};
 use std::alloc::Global;
 use std::sync::Arc;
 
-/// The slice's run as it stands after the checkpoints of a database that was just opened, and where these end.
+/// The slice's run after the checkpoints of a database that was just opened, and where these end.
 pub(crate) fn resumed<F: RowFunction + Drop, S: Alter>(
     alloc: Global,
     conn: &mut Connection<S>,
@@ -32,11 +32,11 @@ pub(crate) fn resumed<F: RowFunction + Drop, S: Alter>(
     number: u64,
     function: &Arc<F, Global>,
     items: &PackedList,
-) -> Result<(SlicePlace<F>, ListEnd), DurableError>
-    ensures shown { IsJustOpened (state S.Store conn.old) → (all : List Kept) → Has (state S.Store conn.old).now.trees all → ShowsList (state S.Store conn.old).now all }
-    ensures rests { IfResumed job.now (F.answer (arc_value function.now)) number items.now (state S.Store conn.old) (state S.Store conn.new) (λ w all. IfOk result (λ r. IsAtRest w (state S.Store conn.new) (⟦<SlicePlace<F> as Placed>⟧.seen r.0) r.1 all)) }
-    ensures told { IfOk result (λ r. IsSeenTold (⟦<SlicePlace<F> as Placed>⟧.seen r.0)) }
-    ensures done { IfResumed job.now (F.answer (arc_value function.now)) number items.now (state S.Store conn.old) (state S.Store conn.new) (λ w all. IsWhole w all → 2 ≤ length all → IfOk result (λ r. IsSeenDone (⟦<SlicePlace<F> as Placed>⟧.seen r.0))) }
+) -> Result<(ResumableRun<F>, ListEnd), DurableError>
+    ensures shown { IsJustOpened (state S.Store conn.old) → (all : List CheckpointBytes) → Has (state S.Store conn.old).now.trees all → ShowsList (state S.Store conn.old).now all }
+    ensures rests { IfResumed job.now (F.answer (arc_value function.now)) number items.now (state S.Store conn.old) (state S.Store conn.new) (λ w all. IfOk result (λ r. FileMatchesMemory w (state S.Store conn.new) (⟦<ResumableRun<F> as Placed>⟧.seen r.0) r.1 all)) }
+    ensures agrees { IfOk result (λ r. SeenMatchesRows (⟦<ResumableRun<F> as Placed>⟧.seen r.0)) }
+    ensures done { IfResumed job.now (F.answer (arc_value function.now)) number items.now (state S.Store conn.old) (state S.Store conn.new) (λ w all. IsWhole w all → 2 ≤ length all → IfOk result (λ r. IsSeenDone (⟦<ResumableRun<F> as Placed>⟧.seen r.0))) }
     ensures left { IfShown (state S.Store conn.old) (state S.Store conn.new) (λ all. (db : _) → (state S.Store conn.new).may_leave db → Has db all) }
     ensures kept { IfShown (state S.Store conn.old) (state S.Store conn.new) (λ all. OnOk result (Keeps (state S.Store conn.new) all)) }
     ensures own { IfShown (state S.Store conn.old) (state S.Store conn.new) (λ all. OnOk result (IsFirstOwn (own_header job.now number items.now) (kept_stamps job.now) all)) }

@@ -5,10 +5,10 @@ ghost use Rattle.std.specs.Arc.{arc_value};
 ghost use Rattle.sqlite.specs.Held.{state};
 ghost use Rattle.sqlite_trees.specs.View.{doubt};
 ghost use Rattle.jb_collect.specs.declared.calls.Status.TheVariants.{Completed, Failed};
-ghost use Rattle.jb_records.specs.Shares.{joined};
+ghost use Rattle.jb_records.specs.PartitionResults.{joined};
 ghost use Rattle.jb_slice_file.specs.Connections.{Keeps};
-ghost use Rattle.jb_slice_file.specs.Files.{IsOfARun};
-ghost use Rattle.jb_slice_file.specs.Kept.{Kept};
+ghost use Rattle.jb_slice_file.specs.Files.{HasRunCheckpoints};
+ghost use Rattle.jb_slice_file.specs.CheckpointBytes.{CheckpointBytes};
 ghost use Rattle.jb_slice_file.specs.Rows.{Has};
 ghost use Rattle.jb_slices.specs.Function.{all_results, faults_from};
 ghost use Rattle.jb_slices.specs.Job.{first_of};
@@ -25,32 +25,32 @@ ghost use Rattle.jb_slice_run.specs.durable.Work.{IfResumed, IfShown, IsWhole, S
 use crate::durable::end::{SliceEnd, ended};
 use crate::durable::error::DurableError;
 use crate::durable::intervals::run;
-use crate::durable::onlooker::Onlooker;
-use crate::durable::pause::Pause;
+use crate::durable::listener::ProgressListener;
+use crate::durable::loop_end::LoopEnd;
 use crate::durable::resumed::resumed;
 use crate::durable::seen::is_whole;
+use crate::{Pace, SliceJob, bytes_identify_checkpoints, rows_are_progress};
 use jb_base::PackedList;
 use jb_rows::RowFunction;
-use crate::{Pace, SliceJob, checkpoints_are_told, rows_are_progress};
 use jb_slices::{failures_are_named, slices_follow_the_rules, slices_have_results};
 use sqlite::{Alter, Connection};
 use std::alloc::Global;
 use std::sync::{Arc, Wait};
 use std::thread::Threads;
 
-/// Runs the slice of this number, with these items, whose checkpoints are kept in a database that was just opened. It begins if the database
-/// has none, else it resumes after them. Each interval takes as many rounds as the pace says, and is kept before the next one begins. If a
-/// partition fails, that is kept and the others go on. Once each partition has ended the slice ends FAILED, and a next call tries the failed
-/// ones again. A whole slice gives its results again, and runs nothing. If the onlooker says after a checkpoint that the slice doesn't go on, and
-/// it isn't whole, it ends there, and a next call resumes it.
+/// Runs the slice with this number and these items. Its checkpoints are in a database that was just opened. It begins if the database has none,
+/// else it resumes after them. Each interval takes as many rounds as the pace says, and is stored before the next one begins. If a partition
+/// fails, the failure is stored and the others continue. If one has failed once all have ended, the slice ends FAILED, and a next call tries the
+/// failed ones again. A whole slice gives its results again, and runs nothing. If the listener stops the slice after a checkpoint, and the slice
+/// isn't whole and hasn't failed, it ends there, and a next call resumes it.
 ///
 /// # Errors
-/// `Run` with why the slice isn't resumed, and then nothing is written, or with why an interval broke off; `Store` with what is wrong with the
-/// file; `TooMany`; `Stopped`, where the onlooker said so.
+/// `Run` with why the slice isn't resumed, and then no checkpoint is written, or with why an interval broke off. `Store` with what is wrong with
+/// the file. `TooMany` if there are 4,294,967,295 checkpoints. `Stopped` if the listener stopped it.
 pub fn run_slice<
     F: RowFunction + Drop + 'static,
     P: Pace + Drop,
-    O: Onlooker + Drop,
+    O: ProgressListener + Drop,
     R: Threads + Wait + Sync,
     S: Alter,
 >(
@@ -62,50 +62,51 @@ pub fn run_slice<
     function: &Arc<F, Global>,
     items: &PackedList,
     pace: P,
-    onlooker: O,
+    listener: O,
 ) -> Result<SliceEnd, DurableError>
-    // The connection keeps the slice as it ended.
-    ensures ends { IfResumed job.now (F.answer (arc_value function.now)) number items.now (state S.Store conn.old) (state S.Store conn.new) (λ w all. IfOk result (λ end. (now : List Kept) × Keeps (state S.Store conn.new) now × HasEnded w end now)) }
+    // The connection holds the slice as it ended.
+    ensures ends { IfResumed job.now (F.answer (arc_value function.now)) number items.now (state S.Store conn.old) (state S.Store conn.new) (λ w all. IfOk result (λ end. (now : List CheckpointBytes) × Keeps (state S.Store conn.new) now × HasEnded w end now)) }
 
-    // COMPLETED has the results of all items, each once and in order, and the faults of those that were skipped.
+    // A COMPLETED slice has the results of all items, each once and in order, and the faults of those that were skipped.
     ensures all { IfResumed job.now (F.answer (arc_value function.now)) number items.now (state S.Store conn.old) (state S.Store conn.new) (λ w all. IfOk result (λ end. end.status ≡ Completed → joined end.results.items ≡ all_results w.f w.items)) }
     ensures skips { IfResumed job.now (F.answer (arc_value function.now)) number items.now (state S.Store conn.old) (state S.Store conn.new) (λ w all. IfOk result (λ end. end.status ≡ Completed → faults_in end.skips.items ≡ faults_from w.f (first_of w.job w.number) w.items)) }
 
-    // FAILED names a fault for each failed partition, by which the job's rules don't let its items pass.
+    // A FAILED slice names, for each failed partition, the fault by which its items fail under the job's rules.
     ensures failures { IfResumed job.now (F.answer (arc_value function.now)) number items.now (state S.Store conn.old) (state S.Store conn.new) (λ w all. IfOk result (λ end. end.status ≡ Failed → AreFailuresOf w end)) }
 
-    // It is COMPLETED or FAILED, as its rows are, of which each has ended.
+    // It is COMPLETED or FAILED, as its rows say, and each row has ended.
     ensures status { IfOk result (λ end. (end.status ≡ Completed) ⊎ (end.status ≡ Failed)) }
-    ensures told { IfOk result (λ end. end.status ≡ status_of end.rows.items false) }
+    ensures agrees { IfOk result (λ end. end.status ≡ status_of end.rows.items false) }
     ensures ended { IfOk result (λ end. HaveRowsEnded end.rows.items) }
 
-    // It is COMPLETED exactly where the job's rules let the items of each partition pass, whatever was kept and however many runs it took.
+    // It is COMPLETED exactly if the job's rules let the items of each partition pass. The stored checkpoints and the number of runs don't matter.
     ensures passes { IfResumed job.now (F.answer (arc_value function.now)) number items.now (state S.Store conn.old) (state S.Store conn.new) (λ w all. IfOk result (λ end. end.status ≡ Completed → SlicePasses w.job w.limits w.f w.items)) }
     ensures fails { IfResumed job.now (F.answer (arc_value function.now)) number items.now (state S.Store conn.old) (state S.Store conn.new) (λ w all. IfOk result (λ end. end.status ≡ Failed → SlicePasses w.job w.limits w.f w.items → ⊥)) }
 
-    // A whole slice ends as it did, and stays as it is.
+    // A whole slice ends as it did before, and stays as it is.
     ensures again { IfResumed job.now (F.answer (arc_value function.now)) number items.now (state S.Store conn.old) (state S.Store conn.new) (λ w all. IsWhole w all → 2 ≤ length all → IfOk result (λ end. (end.status ≡ Completed) × (joined end.results.items ≡ all_results w.f w.items) × Keeps (state S.Store conn.new) all)) }
     ensures untouched { IfResumed job.now (F.answer (arc_value function.now)) number items.now (state S.Store conn.old) (state S.Store conn.new) (λ w all. IsWhole w all → 2 ≤ length all → (db : _) → (state S.Store conn.new).may_leave db → Has db all) }
 
-    // It has an end only if its header is our own; a refusal of what is kept has its cause, and leaves it; and so has each other error.
+    // It has an end only if its header is our own. A refusal of the stored checkpoints has its cause, and leaves them as they are. Each other
+    // error has its cause too.
     ensures own { IfShown (state S.Store conn.old) (state S.Store conn.new) (λ all. OnOk result (IsFirstOwn (own_header job.now number items.now) (kept_stamps job.now) all)) }
     ensures refused { IfShown (state S.Store conn.old) (state S.Store conn.new) (λ all. IfErr result (λ e. IsRefusal e → IsUntaken job.now (F.answer (arc_value function.now)) number items.now (state S.Store conn.old) (state S.Store conn.new) all e × Keeps (state S.Store conn.new) all)) }
     ensures cause { IfResumed job.now (F.answer (arc_value function.now)) number items.now (state S.Store conn.old) (state S.Store conn.new) (λ w all. IfErr result (IsCauseOfNoEnd job.now w (state S.Store conn.old) (state S.Store conn.new) all)) }
 
-    // A disk that is clean after the call was so before it.
+    // A disk that is clean after the call was clean before it.
     ensures clean { doubt (state S.Store conn.old).is_clean ≤ doubt (state S.Store conn.new).is_clean }
 
     // At any moment a crash leaves the checkpoints of the slice so far.
-    ensures crash { IfResumed job.now (F.answer (arc_value function.now)) number items.now (state S.Store conn.old) (state S.Store conn.new) (λ w all. (db : _) → (state S.Store conn.new).may_leave db → IsOfARun (SoFar w) db) }
+    ensures crash { IfResumed job.now (F.answer (arc_value function.now)) number items.now (state S.Store conn.old) (state S.Store conn.new) (λ w all. (db : _) → (state S.Store conn.new).may_leave db → HasRunCheckpoints (SoFar w) db) }
 {
-    checkpoints_are_told();
+    bytes_identify_checkpoints();
     slices_have_results();
     slices_follow_the_rules();
     failures_are_named();
     let mut pace = pace;
-    let mut onlooker = onlooker;
+    let mut listener = listener;
     let (place, end) = resumed(alloc, conn, job, number, function, items)?;
-    let (place, pause) = run(
+    let (place, loop_end) = run(
         rt,
         alloc,
         conn,
@@ -117,15 +118,15 @@ pub fn run_slice<
         end,
         u32::MAX,
         &mut pace,
-        &mut onlooker,
+        &mut listener,
     )?;
-    ended(alloc, job, place, pause)
+    ended(alloc, job, place, loop_end)
 }
 
-/// The end of a slice that is whole in a database that was just opened, by `run_slice`. None if it isn't whole. Nothing is run.
+/// The end of a slice that `run_slice` made whole, from a database that was just opened. `None` if it isn't whole. Nothing is run.
 ///
 /// # Errors
-/// Those of `run_slice` but `TooMany` and `Stopped`.
+/// As `run_slice`, but never `TooMany` and `Stopped`.
 pub fn collect_slice<F: RowFunction + Drop, S: Alter>(
     alloc: Global,
     conn: &mut Connection<S>,
@@ -140,17 +141,17 @@ pub fn collect_slice<F: RowFunction + Drop, S: Alter>(
     ensures status { IfOk result (λ found. IfSome found (λ end. end.status ≡ Completed)) }
     ensures passes { IfResumed job.now (F.answer (arc_value function.now)) number items.now (state S.Store conn.old) (state S.Store conn.new) (λ w all. IfOk result (λ found. IfSome found (λ end. SlicePasses w.job w.limits w.f w.items))) }
 
-    // There is none only of a slice that isn't whole; one without items may have its header alone.
+    // Only a slice that isn't whole gives `None`. A slice without items may have its header alone.
     ensures none { IfResumed job.now (F.answer (arc_value function.now)) number items.now (state S.Store conn.old) (state S.Store conn.new) (λ w all. IsWhole w all → 2 ≤ length all → IfOk result (λ found. found ≡ None → ⊥)) }
     ensures own { IfShown (state S.Store conn.old) (state S.Store conn.new) (λ all. OnOk result (IsFirstOwn (own_header job.now number items.now) (kept_stamps job.now) all)) }
     ensures refused { IfShown (state S.Store conn.old) (state S.Store conn.new) (λ all. IfErr result (λ e. IsRefusal e → IsUntaken job.now (F.answer (arc_value function.now)) number items.now (state S.Store conn.old) (state S.Store conn.new) all e × Keeps (state S.Store conn.new) all)) }
     ensures cause { IfResumed job.now (F.answer (arc_value function.now)) number items.now (state S.Store conn.old) (state S.Store conn.new) (λ w all. IfErr result (IsCauseOfNoEnd job.now w (state S.Store conn.old) (state S.Store conn.new) all)) }
     ensures clean { doubt (state S.Store conn.old).is_clean ≤ doubt (state S.Store conn.new).is_clean }
 
-    // At any moment a crash leaves the checkpoints that it has.
+    // At any moment a crash leaves the checkpoints that the database had.
     ensures crash { IfShown (state S.Store conn.old) (state S.Store conn.new) (λ all. (db : _) → (state S.Store conn.new).may_leave db → Has db all) }
 {
-    checkpoints_are_told();
+    bytes_identify_checkpoints();
     rows_are_progress();
     slices_have_results();
     slices_follow_the_rules();
@@ -158,6 +159,6 @@ pub fn collect_slice<F: RowFunction + Drop, S: Alter>(
     if !is_whole(&place) {
         return Ok(None);
     }
-    let end = ended(alloc, job, place, Pause::Whole)?;
+    let end = ended(alloc, job, place, LoopEnd::Whole)?;
     Ok(Some(end))
 }

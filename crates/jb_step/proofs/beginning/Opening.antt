@@ -4,7 +4,7 @@ use Rattle.std.proofs.lemmas.List.{drop_more, at_drop_all, at_drop_more}
 use Rattle.std.proofs.lemmas.List.Elements.{All-from_recursion, All-get_or}
 use Rattle.std.specs.List.{enumerate_from}
 use Rattle.jb_artifacts.specs.Meaning.{ArtifactsMeaning}
-use Rattle.jb_chunk.specs.Standing.{TaskState}
+use Rattle.jb_chunk.specs.TaskState.{TaskState}
 use Rattle.jb_repo.specs.Rows.{remaining}
 use Rattle.jb_rules.specs.Rows.{remaining_of}
 use Rattle.jb_rules.specs.Sound.{IsSoundRow}

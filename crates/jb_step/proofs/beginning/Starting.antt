@@ -4,7 +4,7 @@ use Rattle.std.specs.Prelude.{slice_get}
 use Rattle.std.specs.List.{enumerate_from, AllByRecursion}
 use Rattle.jb_rules.specs.declared.row.Row.{Row}
 use Rattle.jb_artifacts.specs.Meaning.{ArtifactsMeaning}
-use Rattle.jb_chunk.specs.Standing.{TaskState}
+use Rattle.jb_chunk.specs.TaskState.{TaskState}
 use Rattle.jb_step.specs.rounds.PlanLaws.{BeginsWithRows}
 use Rattle.jb_step.specs.Tables.{Table, held_in, in_places, held_at}
 use Rattle.jb_step.specs.preparing.Setup.{Setup, first_tasks, rows_now, unfinished}

@@ -17,14 +17,14 @@ use Rattle.jb_rules.specs.States.{is_waiting, has_ended}
 use Rattle.jb_rules.specs.Rows.{remaining_of}
 use Rattle.jb_cert.specs.Lawful.{Pair, IsLawful}
 use Rattle.jb_chunk.specs.Attempt.{attempt_of, block_of}
-use Rattle.jb_chunk.specs.Standing.{TaskState}
+use Rattle.jb_chunk.specs.TaskState.{TaskState}
 use Rattle.jb_repo.specs.Rows.{remaining}
 use Rattle.jb_step.specs.Alone.{have_ended}
 use Rattle.jb_step.specs.rounds.PlanLaws.{ChunksAreBlocks, NextCanRun, RunsInOrder, RunsAll}
 use Rattle.jb_step.specs.Tables.{Table, held_in, held_at}
 use Rattle.jb_step.specs.rounds.Rounds.{AreRun, CanRun, GoQuietly, after_in, after_round, after_rounds, breaks_in, has_partition, is_commit, tasks_in}
 use Rattle.jb_step.specs.preparing.Setup.{Setup, row_now, counts_now}
-use Rattle.jb_step.specs.inside.Below.{ChunkLaws}
+use Rattle.jb_step.specs.inside.LowerLaws.{ChunkLaws}
 use Rattle.jb_step.proofs.run.Adding.{quiet-parts}
 use Rattle.jb_step.proofs.table.Apart.{IsWaiting, wait-in}
 use Rattle.jb_step.proofs.table.Filters.{all-so, all-true, kept-so, so-kept, true-all}

@@ -6,7 +6,7 @@ use Rattle.jb_rules.specs.declared.row.Row.{Row}
 use Rattle.jb_rules.specs.Sound.{IsSoundRow}
 use Rattle.jb_base.specs.Limits.{max_retry_limit}
 use Rattle.jb_artifacts.specs.Meaning.{ArtifactsMeaning, Fits}
-use Rattle.jb_chunk.specs.Standing.{TaskState, IsReady, HasItemCount, started}
+use Rattle.jb_chunk.specs.TaskState.{TaskState, IsReady, HasItemCount, started}
 use Rattle.jb_step.specs.rounds.PlanLaws.{AreTasksOf, BeginsWithTable, BeginsWithTasks, PartitionsStay}
 use Rattle.jb_step.specs.preparing.Prepare.{FitRows}
 use Rattle.jb_step.specs.preparing.Setup.{Setup, IsSetup, first_tasks, row_now, unfinished}

@@ -3,13 +3,13 @@ use Rattle.std.proofs.Common.{◌≡◌, Bool, true, false, cond, List, [], ◌�
 use Rattle.std.specs.List.{AllByRecursion}
 use Rattle.jb_cert.specs.Lawful.{Pair}
 use Rattle.jb_chunk.specs.Attempt.{attempt_of}
-use Rattle.jb_chunk.specs.Standing.{TaskState}
+use Rattle.jb_chunk.specs.TaskState.{TaskState}
 use Rattle.jb_step.specs.Tables.{Table, held_in}
 use Rattle.jb_step.specs.rounds.PlanLaws.{IsHeld}
 use Rattle.jb_step.specs.rounds.Rounds.{after_in, after_round, after_rounds, has_partition, tasks_in}
 use Rattle.jb_step.specs.rounds.Runs.{rounds_of}
 use Rattle.jb_step.specs.preparing.Setup.{Setup}
-use Rattle.jb_step.specs.inside.Below.{ChunkLaws}
+use Rattle.jb_step.specs.inside.LowerLaws.{ChunkLaws}
 use Rattle.jb_step.proofs.table.Apart.{AllWait, IsWaiting, all-wait}
 use Rattle.jb_step.proofs.table.Filters.{all-both, all-map, kept-so}
 use Rattle.jb_step.proofs.table.Held.{held-round, placed-round, tasks-stay}

@@ -13,14 +13,14 @@ use Rattle.jb_chunk.specs.declared.outcome.Outcome.{Outcome}
 use Rattle.jb_chunk.specs.declared.outcome.Outcome.TheVariants.{Committed, Rolled, Failed, NoMemory}
 use Rattle.jb_chunk.specs.Attempt.{attempt_of, block_of, end_of, ending_by, after_repeats, again_of}
 use Rattle.jb_chunk.specs.Laws.{RepeatsAreRetries}
-use Rattle.jb_chunk.specs.Standing.{TaskState, IsReady, HasItemCount}
+use Rattle.jb_chunk.specs.TaskState.{TaskState, IsReady, HasItemCount}
 use Rattle.jb_rules.specs.Rows.{remaining_of}
 use Rattle.jb_chunk.proofs.RunsAlone.{below-at, left-waiting}
 use Rattle.jb_step.specs.rounds.PlanLaws.{AreTasksOf, IsTaskTable}
 use Rattle.jb_step.specs.rounds.Rounds.{is_commit}
 use Rattle.jb_step.specs.preparing.Setup.{Setup}
 use Rattle.jb_step.specs.Tables.{ArePlaced, Table, held_in}
-use Rattle.jb_step.specs.inside.Below.{ChunkLaws}
+use Rattle.jb_step.specs.inside.LowerLaws.{ChunkLaws}
 use Rattle.jb_step.proofs.table.Held.{HasItsTask}
 
 abbrev pub row_waits : TaskState → Bool

@@ -7,7 +7,7 @@ use Rattle.std.proofs.lemmas.List.{get_or_append_left}
 use Rattle.jb_cert.specs.Lawful.{Pair, IsLawful, StandsIn, HasOnePerPartition}
 use Rattle.jb_step.specs.rounds.PlanLaws.{EndsWhole}
 use Rattle.jb_step.specs.preparing.Setup.{counts_now}
-use Rattle.jb_step.specs.inside.Below.{ChunkLaws}
+use Rattle.jb_step.specs.inside.LowerLaws.{ChunkLaws}
 use Rattle.jb_step.proofs.plans.ChunkNumbers.{has-left}
 use Rattle.jb_step.proofs.plans.ChunksInOrder.{runs-from-ended, number-of-counts}
 use Rattle.jb_step.proofs.plans.Staying.{steady-held}

@@ -16,7 +16,7 @@ use Rattle.jb_rules.specs.declared.row.RowState.{RowState}
 use Rattle.jb_rules.specs.declared.row.RowState.TheVariants as state
 use Rattle.jb_saved.specs.GoingOn.{AreUnfailed}
 use Rattle.jb_saved.specs.SavedRows.{SavedRows, IsSaved}
-use Rattle.jb_chunk.specs.Standing.{HasItemCount}
+use Rattle.jb_chunk.specs.TaskState.{HasItemCount}
 use Rattle.jb_step.specs.preparing.Setup.{IsSetup, fresh_rows}
 use Rattle.jb_step.specs.inside.preparing.Fresh.{setup_of_rows}
 use Rattle.jb_step.specs.inside.preparing.Preparing.{MayOpen}

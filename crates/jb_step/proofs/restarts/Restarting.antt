@@ -18,7 +18,7 @@ use Rattle.jb_rules.specs.States.{has_ended, is_finished, is_failed}
 use Rattle.jb_artifacts.specs.Meaning.{ArtifactsMeaning, Fits}
 use Rattle.jb_chunk.specs.Alone.{IsOnTheWay}
 use Rattle.jb_chunk.specs.Laws.{SamePlace, WaysJoin, WaysEnd, OneEnd, TasksStayReady}
-use Rattle.jb_chunk.specs.Standing.{TaskState, started}
+use Rattle.jb_chunk.specs.TaskState.{TaskState, started}
 use Rattle.jb_saved.specs.GoingOn.{restarted, AreUnfailed}
 use Rattle.jb_saved.specs.Laws.{TreeIsRead}
 use Rattle.jb_saved.specs.Reading.{answer_of}

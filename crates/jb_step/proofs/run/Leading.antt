@@ -8,7 +8,7 @@ use Rattle.jb_cert.specs.Lawful.{Pair}
 use Rattle.jb_chunk.specs.Alone.{IsAlone, IsOnTheWay}
 use Rattle.jb_chunk.specs.Attempt.{attempt_of}
 use Rattle.jb_chunk.specs.Laws.{OneEnd, CalmRunsArePlain, WaysEnd}
-use Rattle.jb_chunk.specs.Standing.{TaskState}
+use Rattle.jb_chunk.specs.TaskState.{TaskState}
 use Rattle.jb_step.specs.Laws.{StepsAreOnTheWay, StepsEndAlone, AloneIsOnePlace, CalmStepsArePlain}
 use Rattle.jb_step.specs.rounds.Rounds.{has_partition, after_in, after_round, after_rounds}
 use Rattle.jb_step.specs.rounds.Runs.{table_after, rounds_of}

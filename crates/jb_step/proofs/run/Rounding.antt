@@ -3,7 +3,7 @@ use Rattle.std.proofs.Common.{◌≡◌, ℕ, ◌+◌, Bool, List, Option, lengt
 use Rattle.jb_cert.specs.Lawful.{Pair}
 use Rattle.jb_cert.specs.declared.notes.PlanNote.{PlanNote}
 use Rattle.jb_chunk.specs.Attempt.{AttemptEnd}
-use Rattle.jb_chunk.specs.Standing.{TaskState}
+use Rattle.jb_chunk.specs.TaskState.{TaskState}
 use Rattle.jb_chunk.specs.declared.outcome.Done.{Done}
 use Rattle.jb_collect.specs.Heard.{endings_of, heard_in}
 use Rattle.jb_step.specs.Alone.{AreReady}
@@ -15,11 +15,11 @@ use Rattle.jb_step.specs.inside.table.Places.{table_in}
 use Rattle.jb_step.proofs.table.Placing.{IsPutBack}
 
 -- the Dones of the set's tasks were put back, counted, judged and told
-pub round-is : {T : Type 0} (standing : T → TaskState) (set : List Pair) (before after : List (Option T)) (ds : List (Done T)) → IsPutBack standing set before ds after
-    → (m n : Moment) (rounds more tried again : ℕ) (notes : List PlanNote) (broke : Bool) → AreReady (held_in (table_in standing before)) → broke ≡ breaks_in (endings_of standing ds)
-    → HearsMore m (heard_in (endings_of standing ds)) n → more ≡ rounds + 1 → again ≡ tried + length ds
-    → IsRound set broke (record { moment = m; table = table_in standing before; rounds = rounds; attempts = tried; notes = notes }) (record { moment = n; table = table_in standing after; rounds = more; attempts = again; notes = notes })
-round-is standing set before after ds back m n rounds more tried again notes broke ready broke_is heard one all = record {
+pub round-is : {T : Type 0} (task_state : T → TaskState) (set : List Pair) (before after : List (Option T)) (ds : List (Done T)) → IsPutBack task_state set before ds after
+    → (m n : Moment) (rounds more tried again : ℕ) (notes : List PlanNote) (broke : Bool) → AreReady (held_in (table_in task_state before)) → broke ≡ breaks_in (endings_of task_state ds)
+    → HearsMore m (heard_in (endings_of task_state ds)) n → more ≡ rounds + 1 → again ≡ tried + length ds
+    → IsRound set broke (record { moment = m; table = table_in task_state before; rounds = rounds; attempts = tried; notes = notes }) (record { moment = n; table = table_in task_state after; rounds = more; attempts = again; notes = notes })
+round-is task_state set before after ds back m n rounds more tried again notes broke ready broke_is heard one all = record {
   left = record {
     table_is = back.table_is;
     rounds_are = one;

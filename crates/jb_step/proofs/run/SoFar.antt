@@ -12,7 +12,7 @@ use Rattle.jb_cert.specs.WrapAround.{slots_of_round, wrapped_rounds}
 use Rattle.jb_cert.specs.declared.notes.PlanNote.{PlanNote}
 use Rattle.jb_base.specs.Pairwise.{Pairwise}
 use Rattle.jb_chunk.specs.Attempt.{attempt_of}
-use Rattle.jb_chunk.specs.Standing.{TaskState}
+use Rattle.jb_chunk.specs.TaskState.{TaskState}
 use Rattle.jb_collect.specs.declared.calls.AnalyzerCall.{AnalyzerCall}
 use Rattle.jb_collect.specs.Heard.{heard_in, heard_of}
 use Rattle.jb_step.specs.rounds.PlanLaws.{AreTasksOf, IsTaskTable}
@@ -21,7 +21,7 @@ use Rattle.jb_step.specs.rounds.Rounds.{AreRun, CanRun, after_in, after_rounds, 
 use Rattle.jb_step.specs.rounds.Runs.{AreOver, ArePlanRuns, note_of, rounds_run}
 use Rattle.jb_step.specs.preparing.Setup.{Setup, counts_now}
 use Rattle.jb_step.specs.Alone.{AreReady}
-use Rattle.jb_step.specs.inside.Below.{LawsBelow}
+use Rattle.jb_step.specs.inside.LowerLaws.{LowerLaws}
 use Rattle.jb_step.specs.inside.rounds.Round.{AreLeft, IsRound, Progress}
 use Rattle.jb_step.specs.inside.rounds.SoFar.{AreWithin, IsOpen, IsPlanFor, IsRunOfStepSoFar, plan_run_of, set_of_round}
 use Rattle.jb_step.specs.inside.callbacks.Telling.{HearsMore}
@@ -60,7 +60,7 @@ ready-of s (t ∷ ts) h = (h.0.0, ready-of s ts h.1)
 none-left : (now : Progress) → AreLeft [] now now
 none-left now = record { table_is = refl; rounds_are = omega arith; attempts_are = omega arith; heard_is = hears-none now.moment.fault now.moment.calls }
 
-left-more : LawsBelow → (rounds more : List (List Pair)) (first now later : Progress) → AreLeft rounds first now → AreLeft more now later → AreLeft (rounds ++ more) first later
+left-more : LowerLaws → (rounds more : List (List Pair)) (first now later : Progress) → AreLeft rounds first now → AreLeft more now later → AreLeft (rounds ++ more) first later
 left-more below rounds more first now later l m =
     let es = attempts_of rounds first.table in
     let fs = attempts_of more now.table in
@@ -86,7 +86,7 @@ long-plan load = length-map (wrapped_rounds load.counts load.threads) (map slot_
 pub opens : (s : Setup) (load : Load) (first : Progress) → IsTaskTable s first.table → IsOpen s load 0 first first
 opens s load first table = record { run = tt; quiet = refl; notes_are = refl; left = none-left first; table = table }
 
-module _ (below : LawsBelow) (s : Setup) (load : Load) (first : Progress) (made : IsPlanFor s first.table (plan_run_of load 0)) (table : IsTaskTable s first.table) where
+module _ (below : LowerLaws) (s : Setup) (load : Load) (first : Progress) (made : IsPlanFor s first.table (plan_run_of load 0)) (table : IsTaskTable s first.table) where
   abbrev sets : List (List Pair)
   sets = sets_of (wrapped_rounds load.counts load.threads)
 
@@ -162,7 +162,7 @@ module _ (below : LawsBelow) (s : Setup) (load : Load) (first : Progress) (made 
 pub none-run : (s : Setup) (limit : Option ℕ) (stopped : Bool) (now : Progress) → AreWithin limit now.rounds → IsRunOfStepSoFar s limit stopped now now
 none-run s limit stopped now few = record { plans = []; run = tt; over = λ going. tt; notes_are = sym (append-nil now.notes); few = few; left = none-left now }
 
-pub runs-more : LawsBelow → (s : Setup) (limit : Option ℕ) (stopped : Bool) (first now later : Progress) → IsRunOfStepSoFar s limit false first now → IsRunOfStepSoFar s limit stopped now later → IsRunOfStepSoFar s limit stopped first later
+pub runs-more : LowerLaws → (s : Setup) (limit : Option ℕ) (stopped : Bool) (first now later : Progress) → IsRunOfStepSoFar s limit false first now → IsRunOfStepSoFar s limit stopped now later → IsRunOfStepSoFar s limit stopped first later
 runs-more below s limit stopped first now later one more =
     let is = one.left.table_is in
     record {

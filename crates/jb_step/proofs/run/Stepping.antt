@@ -4,11 +4,11 @@ use Rattle.std.specs.Prelude.{MatchOption, if◌then◌else◌, is_some}
 use Rattle.std.proofs.lemmas.List.{length-map}
 use Rattle.jb_base.specs.declared.class.ClassId.{ClassId}
 use Rattle.jb_rules.specs.declared.row.Row.{Row}
-use Rattle.jb_chunk.specs.Standing.{TaskState}
+use Rattle.jb_chunk.specs.TaskState.{TaskState}
 use Rattle.jb_collect.specs.declared.calls.Status.{Status}
 use Rattle.jb_collect.specs.declared.calls.Status.TheVariants.{Failed}
 use Rattle.jb_collect.specs.declared.calls.AnalyzerCall.{AnalyzerCall}
-use Rattle.jb_collect.specs.Taken.{Taken, AreTaken, HasTaken, since}
+use Rattle.jb_collect.specs.AnsweredCalls.{AnsweredCall, AreTaken, HasTaken, since}
 use Rattle.jb_collect.specs.Heard.{heard_first, heard_in, heard_last}
 use Rattle.jb_step.specs.Answers.{IsRunOfStep, IsUnstopped, StepRun, artifacts_of, table_before, tasks_after, tasks_before}
 use Rattle.jb_step.specs.Tables.{Table, held_in}
@@ -19,7 +19,7 @@ use Rattle.jb_step.specs.preparing.Setup.{rows_now}
 use Rattle.jb_step.specs.Statuses.{status_of}
 use Rattle.jb_step.specs.Alone.{AreOnTheWay, have_ended}
 use Rattle.jb_step.specs.rounds.PlanLaws.{IsTaskTable}
-use Rattle.jb_step.specs.inside.Below.{LawsBelow}
+use Rattle.jb_step.specs.inside.LowerLaws.{LowerLaws}
 use Rattle.jb_step.specs.inside.rounds.Round.{AreLeft, Progress}
 use Rattle.jb_step.specs.inside.rounds.SoFar.{AreWithin, IsRunOfStepSoFar, at_first}
 use Rattle.jb_step.specs.inside.callbacks.Telling.{HearsMore, Moment, moment}
@@ -29,17 +29,17 @@ use Rattle.jb_step.proofs.run.Leading.{steps_are_on_the_way}
 
 -- THE ANALYZER'S FAULT
 
-fault-one : (o fault : Option ClassId) (cs : List AnalyzerCall) (ts : List (Taken AnalyzerCall)) → MatchOption o (AreTaken cs fault ts) (λ class. (fault ≡ Some class) × (ts ≡ [])) → (AreTaken cs fault ts → has_fault ts ≡ is_some fault) → (is_some o || has_fault ts) ≡ is_some fault
+fault-one : (o fault : Option ClassId) (cs : List AnalyzerCall) (ts : List (AnsweredCall AnalyzerCall)) → MatchOption o (AreTaken cs fault ts) (λ class. (fault ≡ Some class) × (ts ≡ [])) → (AreTaken cs fault ts → has_fault ts ≡ is_some fault) → (is_some o || has_fault ts) ≡ is_some fault
 fault-one None fault cs ts h more = more h
 fault-one (Some class) fault cs ts h more = sym (ap is_some h.0)
 
-fault-is : (calls : List AnalyzerCall) (fault : Option ClassId) (ts : List (Taken AnalyzerCall)) → AreTaken calls fault ts → has_fault ts ≡ is_some fault
+fault-is : (calls : List AnalyzerCall) (fault : Option ClassId) (ts : List (AnsweredCall AnalyzerCall)) → AreTaken calls fault ts → has_fault ts ≡ is_some fault
 fault-is [] fault [] h = sym (ap is_some h)
 fault-is [] fault (t ∷ ts) h = absurd h
 fault-is (c ∷ cs) fault [] h = absurd h
 fault-is (c ∷ cs) fault (t ∷ ts) h = fault-one t.fault fault cs ts h.1 (fault-is cs fault ts)
 
-fault-since : (base after : List (Taken AnalyzerCall)) (calls : List AnalyzerCall) (fault : Option ClassId) → HasTaken base calls fault after → is_some fault ≡ has_fault (since base after)
+fault-since : (base after : List (AnsweredCall AnalyzerCall)) (calls : List AnalyzerCall) (fault : Option ClassId) → HasTaken base calls fault after → is_some fault ≡ has_fault (since base after)
 fault-since base after calls fault h = sym (fault-is calls fault (since base after) h.taken)
 
 -- the status, from that before the reducer's last calls
@@ -67,7 +67,7 @@ pub record IsLeft (r : StepRun) (fault : Option ClassId) : Type 0 where
   pub left_is : r.left ≡ artifacts_of (held_in now.table)
   pub agree : r.snapshot.stopping ≡ false → (stopped ≡ false) × (r.snapshot.plans ≡ length r.notes) × (r.snapshot.events ≡ length r.notes + now.rounds + 2 * now.attempts)
 
-module _ (below : LawsBelow) (r : StepRun) (fault : Option ClassId) (h : IsLeft r fault) where
+module _ (below : LowerLaws) (r : StepRun) (fault : Option ClassId) (h : IsLeft r fault) where
   abbrev start : Table
   start = table_before r
 

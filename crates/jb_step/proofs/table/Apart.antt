@@ -8,11 +8,11 @@ use Rattle.jb_rules.specs.States.{is_waiting}
 use Rattle.jb_cert.specs.Lawful.{Pair}
 use Rattle.jb_chunk.specs.Alone.{IsRunOf}
 use Rattle.jb_chunk.specs.Attempt.{AttemptEnd, attempt_of}
-use Rattle.jb_chunk.specs.Standing.{TaskState}
+use Rattle.jb_chunk.specs.TaskState.{TaskState}
 use Rattle.jb_collect.specs.declared.calls.AnalyzerCall.{AnalyzerCall}
 use Rattle.jb_collect.specs.declared.calls.AnalyzerCall.TheVariants as call
 use Rattle.jb_collect.specs.declared.calls.Status.TheVariants.{Stopped}
-use Rattle.jb_collect.specs.Heard.{calls_about, heard_first, heard_in, heard_last, partition_told}
+use Rattle.jb_collect.specs.Heard.{calls_about, heard_first, heard_in, heard_last, partition_heard}
 use Rattle.jb_collect.specs.Laws.{PartitionsAreHeardApart}
 use Rattle.jb_step.specs.OnePartition.{alone_at, attempts_at, OthersDontCount, HeardOfPartition, AttemptsAreAlone}
 use Rattle.jb_step.specs.Tables.{ArePlaced, Table, held_in, keep_if, held_at}
@@ -60,7 +60,7 @@ others_dont_count p start plans = (attempts-rounds p (rounds_of plans) start, al
 
 about-last : (p : ℕ) (table : Table) → calls_about p (heard_last (held_in table)) ≡ heard_last (held_in (alone_at p table))
 about-last p table =
-    pick (λ (d : AnalyzerCall). nat_eq (partition_told d) p) (λ (t : TaskState). is_waiting t.row.state) (λ (t : TaskState). nat_eq t.partition p) (λ (t : TaskState). call.Status t.partition Stopped) (λ t. refl) (held_in table)
+    pick (λ (d : AnalyzerCall). nat_eq (partition_heard d) p) (λ (t : TaskState). is_waiting t.row.state) (λ (t : TaskState). nat_eq t.partition p) (λ (t : TaskState). call.Status t.partition Stopped) (λ t. refl) (held_in table)
     ∙ ap heard_last (sym (held-kept (λ (t : TaskState). nat_eq t.partition p) table))
 
 pub heard_of_partition : PartitionsAreHeardApart → HeardOfPartition
@@ -68,9 +68,9 @@ heard_of_partition law p s start plans =
     let first = heard_first s.is_fresh s.rows in
     let all = all_attempts plans start in
     let last = heard_last (held_in (table_after plans start)) in
-    filter-append (λ (d : AnalyzerCall). nat_eq (partition_told d) p) (first ++ heard_in all) last
+    filter-append (λ (d : AnalyzerCall). nat_eq (partition_heard d) p) (first ++ heard_in all) last
     ∙ ap₂ ◌++◌
-    (filter-append (λ (d : AnalyzerCall). nat_eq (partition_told d) p) first (heard_in all) ∙ ap (λ cs. calls_about p first ++ cs) (law p all))
+    (filter-append (λ (d : AnalyzerCall). nat_eq (partition_heard d) p) first (heard_in all) ∙ ap (λ cs. calls_about p first ++ cs) (law p all))
     (about-last p (table_after plans start))
 
 -- ALONE

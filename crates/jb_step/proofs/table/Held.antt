@@ -10,7 +10,7 @@ use Rattle.jb_rules.specs.States.{is_finished, is_waiting}
 use Rattle.jb_cert.specs.Lawful.{Pair}
 use Rattle.jb_cert.specs.Rising.{RiseFrom}
 use Rattle.jb_chunk.specs.Attempt.{attempt_of}
-use Rattle.jb_chunk.specs.Standing.{TaskState}
+use Rattle.jb_chunk.specs.TaskState.{TaskState}
 use Rattle.jb_step.specs.Tables.{ArePlaced, Table, held_in, held_at}
 use Rattle.jb_step.specs.rounds.Rounds.{after_in, after_round, has_partition}
 use Rattle.jb_step.specs.inside.rounds.Round.{partitions_of}
@@ -34,11 +34,11 @@ placed-map f same k (None ∷ table) h = (tt, placed-map f same (k + 1) table h.
 placed-map f same k (Some t ∷ table) h = (same t ∙ h.0, placed-map f same (k + 1) table h.1)
 
 -- one place more
-pub placed-more : {T : Type 0} (standing : T → TaskState) (k : ℕ) (places : List (Option T)) (place : Option T) → ArePlaced k (map (option_map standing) places) → ArePlaced (k + length places) (map (option_map standing) (place ∷ []))
-    → ArePlaced k (map (option_map standing) places ++ map (option_map standing) (place ∷ []))
-placed-more standing k [] place h here = subst (λ n. ArePlaced n (map (option_map standing) (place ∷ []))) (let e : k + 0 ≡ k = omega arith in e) here
-placed-more standing k (o ∷ places) place h here =
-    (h.0, placed-more standing (k + 1) places place h.1 (subst (λ n. ArePlaced n (map (option_map standing) (place ∷ []))) (let e : k + suc (length places) ≡ (k + 1) + length places = omega arith in e) here))
+pub placed-more : {T : Type 0} (task_state : T → TaskState) (k : ℕ) (places : List (Option T)) (place : Option T) → ArePlaced k (map (option_map task_state) places) → ArePlaced (k + length places) (map (option_map task_state) (place ∷ []))
+    → ArePlaced k (map (option_map task_state) places ++ map (option_map task_state) (place ∷ []))
+placed-more task_state k [] place h here = subst (λ n. ArePlaced n (map (option_map task_state) (place ∷ []))) (let e : k + 0 ≡ k = omega arith in e) here
+placed-more task_state k (o ∷ places) place h here =
+    (h.0, placed-more task_state (k + 1) places place h.1 (subst (λ n. ArePlaced n (map (option_map task_state) (place ∷ []))) (let e : k + suc (length places) ≡ (k + 1) + length places = omega arith in e) here))
 
 -- a place has a task where its row is unfinished
 abbrev pub HasItsTask : Row → Option TaskState → Type 0

@@ -2,7 +2,7 @@
 use Rattle.std.proofs.Common.{◌≡◌, ℕ, suc, zero, ◌+◌, ◌<◌, Bool, true, false, cond, List, [], ◌∷◌, map, Some, None, refl, ap, ◌∙◌, arith, zero-add, eq-eqb}
 use Rattle.std.specs.Prelude.{filter}
 use Rattle.std.specs.List.{cons_option}
-use Rattle.jb_chunk.specs.Standing.{TaskState}
+use Rattle.jb_chunk.specs.TaskState.{TaskState}
 use Rattle.jb_step.specs.OnePartition.{alone_at}
 use Rattle.jb_step.specs.Tables.{ArePlaced, Table, held_at, held_in, keep_if}
 use Rattle.jb_step.proofs.table.Numbers.{differ, differ-back}

@@ -2,7 +2,7 @@
 use Rattle.std.proofs.Common.{◌≡◌, ℕ, suc, zero, ◌+◌, ◌<◌, Bool, cond, List, [], ◌∷◌, Option, Some, None, refl, ap, ap₂, ◌∙◌, arith, zero-add, eq-eqb}
 use Rattle.std.specs.Prelude.{nat_eq, find}
 use Rattle.std.specs.Option.{option_map_or}
-use Rattle.jb_chunk.specs.Standing.{TaskState}
+use Rattle.jb_chunk.specs.TaskState.{TaskState}
 use Rattle.jb_step.specs.Tables.{ArePlaced, Table, held_at, held_in}
 use Rattle.jb_step.proofs.table.Numbers.{differ, differ-back}
 

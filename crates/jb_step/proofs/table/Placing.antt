@@ -10,7 +10,7 @@ use Rattle.jb_cert.specs.Plans.{slot_pair}
 use Rattle.jb_cert.specs.Rising.{RiseFrom}
 use Rattle.jb_cert.specs.declared.plans.Slot.{Slot}
 use Rattle.jb_chunk.specs.Attempt.{AttemptEnd, attempt_of, ending_of, IsAttemptBy}
-use Rattle.jb_chunk.specs.Standing.{TaskState, IsReady}
+use Rattle.jb_chunk.specs.TaskState.{TaskState, IsReady}
 use Rattle.jb_chunk.specs.declared.outcome.Done.{Done}
 use Rattle.jb_chunk.specs.declared.outcome.Outcome.{Outcome}
 use Rattle.jb_chunk.specs.declared.outcome.Outcome.TheVariants.{Committed, Rolled, Failed, NoMemory}
@@ -173,37 +173,37 @@ attempt_by (Rolled class) t e h m = h
 attempt_by (Failed class) t e h m = h
 attempt_by NoMemory t e h m = let never : ⊥ = cc in absurd never
 
-module _ {T : Type 0} (standing : T → TaskState) where
-  map-cons : (x : Option T) (ts : List T) → map standing (cons_option x ts) ≡ cons_option (option_map standing x) (map standing ts)
+module _ {T : Type 0} (task_state : T → TaskState) where
+  map-cons : (x : Option T) (ts : List T) → map task_state (cons_option x ts) ≡ cons_option (option_map task_state x) (map task_state ts)
   map-cons None ts = refl
   map-cons (Some t) ts = refl
 
-  picked-in : (set : List Pair) (os : List (Option T)) → map standing (picked set os) ≡ picked set (table_in standing os)
+  picked-in : (set : List Pair) (os : List (Option T)) → map task_state (picked set os) ≡ picked set (table_in task_state os)
   picked-in [] os = refl
   picked-in (pair ∷ set) os =
       map-cons (slice_index_or os pair.0 None) (picked set (slice_set os pair.0 None))
-      ∙ ap₂ cons_option (sym (at-map standing os pair.0)) (picked-in set (slice_set os pair.0 None) ∙ ap (picked set) (map-set (option_map standing) os pair.0 None))
+      ∙ ap₂ cons_option (sym (at-map task_state os pair.0)) (picked-in set (slice_set os pair.0 None) ∙ ap (picked set) (map-set (option_map task_state) os pair.0 None))
 
-  emptied-in : (set : List Pair) (os : List (Option T)) → table_in standing (emptied set os) ≡ emptied set (table_in standing os)
+  emptied-in : (set : List Pair) (os : List (Option T)) → table_in task_state (emptied set os) ≡ emptied set (table_in task_state os)
   emptied-in [] os = refl
-  emptied-in (pair ∷ set) os = emptied-in set (slice_set os pair.0 None) ∙ ap (emptied set) (map-set (option_map standing) os pair.0 None)
+  emptied-in (pair ∷ set) os = emptied-in set (slice_set os pair.0 None) ∙ ap (emptied set) (map-set (option_map task_state) os pair.0 None)
 
-  filled-in : (ds : List (Done T)) (os : List (Option T)) → table_in standing (filled standing ds os) ≡ put (map (λ (d : Done T). standing d.task) ds) (table_in standing os)
+  filled-in : (ds : List (Done T)) (os : List (Option T)) → table_in task_state (filled task_state ds os) ≡ put (map (λ (d : Done T). task_state d.task) ds) (table_in task_state os)
   filled-in [] os = refl
   filled-in (d ∷ ds) os =
-      let t = standing d.task in
-      filled-in ds (slice_set os t.partition (Some d.task)) ∙ ap (put (map (λ (d : Done T). standing d.task) ds)) (map-set (option_map standing) os t.partition (Some d.task))
+      let t = task_state d.task in
+      filled-in ds (slice_set os t.partition (Some d.task)) ∙ ap (put (map (λ (d : Done T). task_state d.task) ds)) (map-set (option_map task_state) os t.partition (Some d.task))
 
-  pub taken-are : (set : List Pair) (os : List (Option T)) → RiseFrom 0 (firsts set) → ArePlaced 0 (table_in standing os) → map standing (picked set os) ≡ tasks_in set (table_in standing os)
-  taken-are set os rise placed = picked-in set os ∙ taken-are-in 0 set (table_in standing os) rise placed
+  pub taken-are : (set : List Pair) (os : List (Option T)) → RiseFrom 0 (firsts set) → ArePlaced 0 (table_in task_state os) → map task_state (picked set os) ≡ tasks_in set (table_in task_state os)
+  taken-are set os rise placed = picked-in set os ∙ taken-are-in 0 set (table_in task_state os) rise placed
 
-  endings-are : (us : List T) (ds : List (Done T)) → AreDonesOf standing us ds → AreWhole ds → endings_of standing ds ≡ map attempt_of (map standing us)
+  endings-are : (us : List T) (ds : List (Done T)) → AreDonesOf task_state us ds → AreWhole ds → endings_of task_state ds ≡ map attempt_of (map task_state us)
   endings-are [] [] h m = refl
   endings-are [] (d ∷ ds) h m = absurd h
   endings-are (u ∷ us) [] h m = absurd h
-  endings-are (u ∷ us) (d ∷ ds) h m = ap₂ ◌∷◌ (attempt_by d.outcome (standing u) (ending_of (standing d.task) d.outcome d.values.items d.again) h.0.attempt m.0) (endings-are us ds h.1 m.1)
+  endings-are (u ∷ us) (d ∷ ds) h m = ap₂ ◌∷◌ (attempt_by d.outcome (task_state u) (ending_of (task_state d.task) d.outcome d.values.items d.again) h.0.attempt m.0) (endings-are us ds h.1 m.1)
 
-  are-ready : (us : List T) (ds : List (Done T)) → AreDonesOf standing us ds → AllByRecursion (λ (d : Done T). IsReady (standing d.task)) ds
+  are-ready : (us : List T) (ds : List (Done T)) → AreDonesOf task_state us ds → AllByRecursion (λ (d : Done T). IsReady (task_state d.task)) ds
   are-ready [] [] h = tt
   are-ready [] (d ∷ ds) h = absurd h
   are-ready (u ∷ us) [] h = absurd h
@@ -221,31 +221,31 @@ ready-round set table ready again =
     one t ready more = elim (has_partition set t.partition) as (λ b. (b ≡ true → IsReady (next t)) → IsReady (cond b (next t) t)) [ true ↦ λ more. more refl | false ↦ λ more. ready ] more
 
 -- these Dones, put back, are a round of the set
-pub record IsPutBack {T : Type 0} (standing : T → TaskState) (set : List Pair) (before : List (Option T)) (ds : List (Done T)) (after : List (Option T)) : Type 0 where
-  pub table_is : table_in standing after ≡ after_round set (table_in standing before)
-  pub ready : AreReady (held_in (table_in standing before)) → AreReady (held_in (table_in standing after))
-  pub ends : endings_of standing ds ≡ attempts_of (set ∷ []) (table_in standing before)
-  pub number : length ds ≡ length (attempts_of (set ∷ []) (table_in standing before))
+pub record IsPutBack {T : Type 0} (task_state : T → TaskState) (set : List Pair) (before : List (Option T)) (ds : List (Done T)) (after : List (Option T)) : Type 0 where
+  pub table_is : table_in task_state after ≡ after_round set (table_in task_state before)
+  pub ready : AreReady (held_in (table_in task_state before)) → AreReady (held_in (table_in task_state after))
+  pub ends : endings_of task_state ds ≡ attempts_of (set ∷ []) (table_in task_state before)
+  pub number : length ds ≡ length (attempts_of (set ∷ []) (table_in task_state before))
 
-pub put-back : {T : Type 0} (standing : T → TaskState) (set : List Pair) (os : List (Option T)) (ds : List (Done T)) → RiseFrom 0 (firsts set) → ArePlaced 0 (table_in standing os)
-    → AreDonesOf standing (picked set os) ds → AreWhole ds → IsPutBack standing set os ds (filled standing ds (emptied set os))
-put-back standing set os ds rise placed h m =
-    let table = table_in standing os in
-    let made = endings-are standing (picked set os) ds h m in
-    let ends = made ∙ ap (map attempt_of) (taken-are standing set os rise placed) ∙ sym (append-nil (attempts_in set table)) in
-    let left : map (λ (d : Done _). standing d.task) ds ≡ map next (map standing (picked set os)) =
-    sym (map-map (λ (e : AttemptEnd). e.task) (λ (d : Done _). ending_of (standing d.task) d.outcome d.values.items d.again) ds) ∙ ap (map (λ (e : AttemptEnd). e.task)) made ∙ map-map (λ (e : AttemptEnd). e.task) attempt_of (map standing (picked set os)) in
-    let is : table_in standing (filled standing ds (emptied set os)) ≡ after_round set table =
-    filled-in standing ds (emptied set os) ∙ ap₂ put (left ∙ ap (map next) (picked-in standing set os)) (emptied-in standing set os) ∙ put-back-in 0 set table rise placed in
+pub put-back : {T : Type 0} (task_state : T → TaskState) (set : List Pair) (os : List (Option T)) (ds : List (Done T)) → RiseFrom 0 (firsts set) → ArePlaced 0 (table_in task_state os)
+    → AreDonesOf task_state (picked set os) ds → AreWhole ds → IsPutBack task_state set os ds (filled task_state ds (emptied set os))
+put-back task_state set os ds rise placed h m =
+    let table = table_in task_state os in
+    let made = endings-are task_state (picked set os) ds h m in
+    let ends = made ∙ ap (map attempt_of) (taken-are task_state set os rise placed) ∙ sym (append-nil (attempts_in set table)) in
+    let left : map (λ (d : Done _). task_state d.task) ds ≡ map next (map task_state (picked set os)) =
+    sym (map-map (λ (e : AttemptEnd). e.task) (λ (d : Done _). ending_of (task_state d.task) d.outcome d.values.items d.again) ds) ∙ ap (map (λ (e : AttemptEnd). e.task)) made ∙ map-map (λ (e : AttemptEnd). e.task) attempt_of (map task_state (picked set os)) in
+    let is : table_in task_state (filled task_state ds (emptied set os)) ≡ after_round set table =
+    filled-in task_state ds (emptied set os) ∙ ap₂ put (left ∙ ap (map next) (picked-in task_state set os)) (emptied-in task_state set os) ∙ put-back-in 0 set table rise placed in
     record {
       table_is = is;
       ready = λ r.
           subst (λ (os : Table). AreReady (held_in os)) (sym is)
           (ready-round set table r
           (all-back IsReady next (tasks_in set table)
-          (subst AreReady (left ∙ ap (map next) (taken-are standing set os rise placed)) (all-map IsReady (λ (d : Done _). standing d.task) ds (are-ready standing (picked set os) ds h)))));
+          (subst AreReady (left ∙ ap (map next) (taken-are task_state set os rise placed)) (all-map IsReady (λ (d : Done _). task_state d.task) ds (are-ready task_state (picked set os) ds h)))));
       ends = ends;
-      number = sym (length-map ds (λ (d : Done _). ending_of (standing d.task) d.outcome d.values.items d.again)) ∙ ap length ends;
+      number = sym (length-map ds (λ (d : Done _). ending_of (task_state d.task) d.outcome d.values.items d.again)) ∙ ap length ends;
     }
 
 -- slots that come by rising partition, as pairs

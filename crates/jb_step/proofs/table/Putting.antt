@@ -5,7 +5,7 @@ use Rattle.std.specs.List.{enumerate_from}
 use Rattle.jb_base.specs.Pairwise.{Pairwise}
 use Rattle.jb_rules.specs.declared.row.Row.{Row}
 use Rattle.jb_rules.specs.States.{is_finished}
-use Rattle.jb_chunk.specs.Standing.{TaskState}
+use Rattle.jb_chunk.specs.TaskState.{TaskState}
 use Rattle.jb_step.specs.Tables.{ArePlaced, Table, held_at, held_in, in_places}
 use Rattle.jb_step.specs.preparing.Setup.{needs}
 use Rattle.jb_step.specs.inside.rounds.Round.{partitions_of}

@@ -5,7 +5,7 @@ use Rattle.std.specs.Option.{option_map_or}
 use Rattle.std.specs.List.{enumerate_from}
 use Rattle.jb_rules.specs.declared.row.Row.{Row}
 use Rattle.jb_artifacts.specs.Meaning.{ArtifactsMeaning}
-use Rattle.jb_chunk.specs.Standing.{TaskState}
+use Rattle.jb_chunk.specs.TaskState.{TaskState}
 use Rattle.jb_step.specs.Answers.{artifacts_of, newer}
 use Rattle.jb_step.specs.Tables.{ArePlaced, Table, held_in, held_at}
 use Rattle.jb_step.specs.preparing.Setup.{row_now, rows_now}

@@ -1,10 +1,10 @@
 -- What the callbacks of a step answered (this project's choice).
 use Rattle.std.specs.Prelude.{◌≡◌, ◌⊎◌, Bool, List, [], ◌∷◌, is_some}
 use Rattle.std.specs.List.{list_any}
-use Rattle.jb_collect.specs.Taken.{Taken}
+use Rattle.jb_collect.specs.AnsweredCalls.{AnsweredCall}
 
 -- some call was answered with a fault
-abbrev pub has_fault : {C : Type 0} → List (Taken C) → Bool
+abbrev pub has_fault : {C : Type 0} → List (AnsweredCall C) → Bool
 has_fault calls = list_any (λ t. is_some t.fault) calls
 
 -- some of these, in their order

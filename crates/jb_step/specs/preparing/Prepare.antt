@@ -12,16 +12,15 @@ use Rattle.jb_collect.specs.declared.calls.ReducerCall.{ReducerCall}
 use Rattle.jb_collect.specs.declared.calls.ReducerCall.TheVariants.{Begin, Rollback, After}
 use Rattle.jb_collect.specs.declared.calls.PartitionStatus.TheVariants as status
 use Rattle.jb_collect.specs.ReducerCalls.{calls_before, rolled_back}
-use Rattle.jb_collect.specs.Taken.{Taken, calls_of, faulted, well}
+use Rattle.jb_collect.specs.AnsweredCalls.{AnsweredCall, calls_of, faulted, well}
 use Rattle.jb_saved.specs.SavedRows.{SavedRows}
 use Rattle.jb_step.specs.declared.error.StepError.{StepError}
 use Rattle.jb_step.specs.declared.error.StepError.TheVariants.{Plan, Mapper, Reducer, Saved, Memory}
 use Rattle.jb_step.specs.callbacks.Callbacks.{AreSome}
 use Rattle.jb_step.specs.preparing.Setup.{Setup, overrides, fresh_rows, gone_on, opening_rows, saved_faults, unfinished}
 
--- The mapper's plan can be run, and nothing is wrong with the saved rows. The partitions begin anew on the plan's ranges; or,
--- where there are saved rows that the plan doesn't discard, they go on from these, and of the plan only the thread number
--- counts.
+-- The mapper's plan can be run, and nothing is wrong with the saved rows. The partitions begin from the start on the plan's ranges. But if
+-- there are saved rows that the plan doesn't discard, they resume from these, and only the plan's thread number counts.
 pub record IsPreparation (step : StepRecord) (records : ℕ) (mapped : Result PartitionPlan ClassId) (saved : Option SavedRows) (s : Setup) : Type 0 where
   pub plan : PartitionPlan
   pub mapping : mapped ≡ Ok plan
@@ -38,9 +37,9 @@ abbrev pub overrides_by : Result PartitionPlan ClassId → Option SavedRows → 
 overrides_by (Ok plan) saved = overrides plan.replace saved
 overrides_by (Err class) saved = false
 
--- Where it does, every partition begins anew on the plan's ranges, and the reducer took `begin` and then `rollback`, both
--- answered well. (No partition has begun yet: a step's desk has no event when its rounds begin.)
-abbrev pub IsOverridden : Result PartitionPlan ClassId → Option SavedRows → List (Taken ReducerCall) → Setup → Type 0
+-- If it does, every partition begins from the start on the plan's ranges, and the reducer took `begin` and then `rollback`, both answered
+-- well. (No partition has run yet: a step's desk has no event when its rounds begin.)
+abbrev pub IsOverridden : Result PartitionPlan ClassId → Option SavedRows → List (AnsweredCall ReducerCall) → Setup → Type 0
 IsOverridden mapped saved taken s =
     (plan : PartitionPlan) → mapped ≡ Ok plan → overrides plan.replace saved ≡ true
     → (s.rows ≡ fresh_rows plan.ranges) × (s.is_fresh ≡ true) × (taken ≡ well Begin ∷ well Rollback ∷ [])
@@ -53,15 +52,14 @@ pub record CanOverride (step : StepRecord) (records : ℕ) (mapped : Result Part
   pub accepted : saved_faults step records plan.replace saved ≡ []
   pub discarded : overrides plan.replace saved ≡ true
 
--- the rollback of what is discarded was answered with this fault: `after` follows it, whatever it is answered, and no
--- second rollback
-pub record IsFaultedRollback (class : ClassId) (taken : List (Taken ReducerCall)) : Type 0 where
+-- The rollback of what is discarded was answered with this fault. `after` follows it, and may be answered in any way. No second rollback follows.
+pub record IsFaultedRollback (class : ClassId) (taken : List (AnsweredCall ReducerCall)) : Type 0 where
   pub fault : Option ClassId
   pub calls : taken ≡ well Begin ∷ faulted Rollback class ∷ record { call = After status.Rollback; fault = fault } ∷ []
 
--- the first refusal in the order: `begin`, the mapper, its plan, the saved rows, the rollback of what is discarded; where
--- memory lacked, nothing is said
-abbrev pub IsPrepareRefusal : StepRecord → ℕ → Result PartitionPlan ClassId → Option SavedRows → List (Taken ReducerCall) → StepError → Type 0
+-- The first refusal in this order: `begin`, the mapper, its plan, the saved rows, the rollback of what is discarded. If memory ran out,
+-- nothing is claimed.
+abbrev pub IsPrepareRefusal : StepRecord → ℕ → Result PartitionPlan ClassId → Option SavedRows → List (AnsweredCall ReducerCall) → StepError → Type 0
 IsPrepareRefusal step records mapped saved taken (Reducer class) = (taken ≡ faulted Begin class ∷ []) ⊎ CanOverride step records mapped saved × IsFaultedRollback class taken
 IsPrepareRefusal step records mapped saved taken (Mapper class) = mapped ≡ Err class
 IsPrepareRefusal step records mapped saved taken (Plan fault) = (plan : PartitionPlan) × (mapped ≡ Ok plan) × IsFirst fault (plan_errors records plan)
@@ -70,15 +68,16 @@ IsPrepareRefusal step records mapped saved taken (Saved place) =
 IsPrepareRefusal step records mapped saved taken Memory = Unit {0}
 IsPrepareRefusal step records mapped saved taken _ = ⊥
 
--- `begin` was answered well, and then these calls were taken, whatever they were answered
-pub record IsBegunThen (calls : List ReducerCall) (taken : List (Taken ReducerCall)) : Type 0 where
-  pub next : List (Taken ReducerCall)
+-- `begin` was answered well, and then these calls were taken, answered in any way
+pub record IsBegunThen (calls : List ReducerCall) (taken : List (AnsweredCall ReducerCall)) : Type 0 where
+  pub next : List (AnsweredCall ReducerCall)
   pub begun : taken ≡ well Begin ∷ next
   pub calls_are : calls_of next ≡ calls
 
--- What the reducer took where `prepare` refused so: `begin` alone, answered with the fault; or `begin`, answered well, and
--- then one rollback, whose first call was answered with the fault if it is the reducer's. Where memory lacked it took nothing, or `begin`, answered well, and then some of a rollback's calls.
-abbrev pub AreCallsAtRefusal : StepError → List (Taken ReducerCall) → Type 0
+-- What the reducer took if `prepare` refused so. Either `begin` alone, answered with the fault. Or `begin`, answered well, and then one
+-- rollback, whose first call was answered with the fault if it is the reducer's. If memory ran out, it took nothing, or `begin`, answered
+-- well, and then some of a rollback's calls.
+abbrev pub AreCallsAtRefusal : StepError → List (AnsweredCall ReducerCall) → Type 0
 AreCallsAtRefusal (Reducer class) taken = (taken ≡ faulted Begin class ∷ []) ⊎ IsFaultedRollback class taken
 AreCallsAtRefusal (Mapper class) taken = IsBegunThen rolled_back taken
 AreCallsAtRefusal (Plan fault) taken = IsBegunThen rolled_back taken
@@ -86,8 +85,8 @@ AreCallsAtRefusal (Saved place) taken = IsBegunThen rolled_back taken
 AreCallsAtRefusal Memory taken = (taken ≡ []) ⊎ (calls : List ReducerCall) × AreSome calls rolled_back × IsBegunThen calls taken
 AreCallsAtRefusal _ taken = ⊥
 
--- what it took: where `prepare` didn't refuse, `begin`, and the rollback of what is discarded, all answered well
-abbrev pub AreCallsBefore : {A : Type 0} → (overrides : Bool) → Result A StepError → List (Taken ReducerCall) → Type 0
+-- what it took: if `prepare` didn't refuse, `begin`, and the rollback of what is discarded, all answered well
+abbrev pub AreCallsBefore : {A : Type 0} → (overrides : Bool) → Result A StepError → List (AnsweredCall ReducerCall) → Type 0
 AreCallsBefore overrides (Ok p) taken = taken ≡ map well (calls_before overrides)
 AreCallsBefore overrides (Err e) taken = AreCallsAtRefusal e taken
 

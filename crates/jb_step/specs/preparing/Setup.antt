@@ -9,7 +9,7 @@ use Rattle.jb_rules.specs.declared.row.Row.{Row}
 use Rattle.jb_rules.specs.declared.row.RowState.TheVariants.{Waiting, Finished}
 use Rattle.jb_rules.specs.Rows.{fresh_row}
 use Rattle.jb_artifacts.specs.Meaning.{ArtifactsMeaning}
-use Rattle.jb_chunk.specs.Standing.{TaskState, started}
+use Rattle.jb_chunk.specs.TaskState.{TaskState, started}
 use Rattle.jb_repo.specs.Openable.{IsOpenable, opened_journal}
 use Rattle.jb_repo.specs.Rows.{remaining}
 use Rattle.jb_rules.specs.States.{is_finished}
@@ -35,7 +35,7 @@ abbrev pub opening_rows : List Range → Option SavedRows → List Row
 opening_rows ranges None = fresh_rows ranges
 opening_rows ranges (Some saved) = rows_restarted saved
 
--- the earlier run's rows from which a run goes on: none where the plan begins all partitions anew
+-- the earlier run's rows from which a run resumes: none if the plan begins all partitions from the start
 abbrev pub gone_on : (replace : Bool) → Option SavedRows → Option SavedRows
 gone_on true saved = None
 gone_on false saved = saved
@@ -44,8 +44,7 @@ gone_on false saved = saved
 abbrev pub overrides : (replace : Bool) → Option SavedRows → Bool
 overrides replace saved = replace && is_some saved
 
--- what is wrong with an earlier run's rows for a step of so many records; where they are discarded, whose they are is all
--- that counts
+-- what is wrong with an earlier run's rows for a step of so many records; if they are discarded, only their step is checked
 abbrev pub saved_faults : StepRecord → (records : ℕ) → (replace : Bool) → Option SavedRows → List SavedPlace
 saved_faults step records replace None = []
 saved_faults step records false (Some saved) = step_faults step.id records saved
@@ -73,7 +72,7 @@ first_tasks s artifacts = map (λ n. started n.0.0 n.0.1 s.rules s.item_count n.
 abbrev pub first_table : Setup → List ArtifactsMeaning → Table
 first_table s artifacts = in_places s.rows (first_tasks s artifacts)
 
--- the row of a partition now: its task's, or the prepared one where it has no task
+-- the row of a partition now: its task's, or the prepared one if it has no task
 abbrev pub row_now : List TaskState → ℕ → Row → Row
 row_now [] p row = row
 row_now (t ∷ ts) p row = if nat_eq t.partition p then t.row else row_now ts p row

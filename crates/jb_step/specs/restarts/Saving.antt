@@ -24,7 +24,7 @@ text_cause _ = never
 abbrev pub AnswersSaved : Result SavedRows StepError → Result SavedRows SavedPlace → Type 0
 AnswersSaved result answer = Answers text_cause (λ s. s) result answer
 
--- rows aren't saved where one is running: the first is named; memory runs out only where none is
+-- rows aren't saved if one is running: the first is named; memory runs out only if none is running
 abbrev pub RefusesSaving : StepError → Option ℕ → Type 0
 RefusesSaving (Saved place) (Some i) = place ≡ Rows i
 RefusesSaving Memory running = running ≡ None

@@ -2,7 +2,7 @@
 use Rattle.std.specs.Prelude.{◌≡◌, not, List, [], ◌∷◌, map, filter}
 use Rattle.jb_rules.specs.States.{is_finished}
 use Rattle.jb_artifacts.specs.Meaning.{ArtifactsMeaning}
-use Rattle.jb_chunk.specs.Standing.{TaskState}
+use Rattle.jb_chunk.specs.TaskState.{TaskState}
 use Rattle.jb_step.specs.Answers.{IsRunOfStep, StepRun, tasks_before, tasks_left}
 use Rattle.jb_step.specs.preparing.Prepare.{DoFit}
 use Rattle.jb_step.specs.preparing.Setup.{rows_now}
@@ -35,12 +35,12 @@ tasks_through ts (run ∷ later) = tasks_through (tasks_left ts run.snapshot.row
 abbrev pub tasks_at_last : StepRun → List StepRun → List TaskState
 tasks_at_last first later = tasks_through (tasks_before first) (first ∷ later)
 
--- each of them stands after some of its attempts alone from the first start, and all other partitions as they were then
+-- each of them is where some of its attempts alone from the first start lead, and all other partitions are as they were then
 pub record StandOnTheWay (first : StepRun) (later : List StepRun) : Type 0 where
   pub tasks : AreOnTheWay (tasks_before first) (tasks_at_last first later)
   pub rows : (last_run first later).snapshot.rows.items ≡ rows_now first.setup.rows (tasks_at_last first later)
 
--- each of them stands where its attempts alone from the first start end, and all other partitions as they were then
+-- each of them is where its attempts alone from the first start end, and all other partitions are as they were then
 pub record StandAtTheEnd (first : StepRun) (later : List StepRun) : Type 0 where
   pub tasks : AreAlone (tasks_before first) (tasks_at_last first later)
   pub rows : (last_run first later).snapshot.rows.items ≡ rows_now first.setup.rows (tasks_at_last first later)

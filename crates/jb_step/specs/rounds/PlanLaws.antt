@@ -7,7 +7,7 @@ use Rattle.jb_rules.specs.States.{is_finished}
 use Rattle.jb_artifacts.specs.Meaning.{ArtifactsMeaning}
 use Rattle.jb_cert.specs.Lawful.{Pair, IsLawful, NoneIsShorter}
 use Rattle.jb_chunk.specs.Attempt.{block_of}
-use Rattle.jb_chunk.specs.Standing.{TaskState, IsReady}
+use Rattle.jb_chunk.specs.TaskState.{TaskState, IsReady}
 use Rattle.jb_step.specs.preparing.Prepare.{DoFit}
 use Rattle.jb_step.specs.rounds.Rounds.{AreRun, CanRun, GoQuietly, after_round, after_rounds}
 use Rattle.jb_step.specs.rounds.Runs.{PlanRun, ArePlanRuns, table_after}
@@ -38,7 +38,7 @@ pub record AreFirstTasks (s : Setup) (ts : List TaskState) : Type 0 where
   pub tasks : AreTasksOf s ts
   pub partitions : map (λ t. t.partition) ts ≡ needs s.rows
 
--- it begins with these, and they stand in a table of its own, if the artifacts fit
+-- it begins with these, in a table of the step, if the artifacts fit
 abbrev pub BeginsWithTasks : Type 0
 BeginsWithTasks =
     (s : Setup) (artifacts : List ArtifactsMeaning) → IsSetup s → DoFit s artifacts → AreFirstTasks s (first_tasks s artifacts)
@@ -56,8 +56,7 @@ BeginsWithRows = (s : Setup) (artifacts : List ArtifactsMeaning) → DoFit s art
 abbrev pub PartitionsStay : Type 0
 PartitionsStay = (set : List Pair) (table : Table) → map (option_map (λ t. t.partition)) (after_round set table) ≡ map (option_map (λ t. t.partition)) table
 
--- Of a lawful plan for a table that the step holds some rounds were run, none of them with a rollback or a failure; the
--- others are left
+-- Some rounds were run of a lawful plan for a table that the step holds. None of them had a rollback or a failure. The other rounds are left.
 pub record IsQuietSoFar (s : Setup) (before : Table) (rounds left : List (List Pair)) : Type 0 where
   pub held : IsHeld s before
   pub lawful : IsLawful (counts_now s before) s.threads (rounds ++ left)
@@ -92,7 +91,7 @@ RunsAll =
     (s : Setup) (before : Table) (rounds : List (List Pair)) → IsQuietSoFar s before rounds []
     → (p : ℕ) → p < length s.rows → slice_index (counts_now s (after_rounds rounds before)) p ≡ 0
 
--- a least plan that went quietly is run whole before no partition waits any more
+-- a least plan whose rounds had no rollback or failure is run whole before no partition waits any more
 abbrev pub EndsWhole : Type 0
 EndsWhole =
     (s : Setup) (before : Table) (rounds left : List (List Pair))

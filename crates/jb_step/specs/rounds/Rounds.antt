@@ -1,4 +1,4 @@
--- Rounds over the table of a step. A round is a set of chunks, at most one of each partition. Rounds stand the first one first.
+-- Rounds over the table of a step. A round is a set of chunks, at most one of each partition. Rounds are listed with the first one first.
 use Rattle.std.specs.Prelude.{◌≡◌, ◌⊎◌, ℕ, nat_eq, Bool, true, false, not, if◌then◌else◌, is_some, List, [], ◌∷◌, ◌++◌, map, option_map, filter}
 use Rattle.std.specs.List.{list_any, list_all}
 use Rattle.jb_rules.specs.States.{is_waiting}
@@ -6,7 +6,7 @@ use Rattle.jb_cert.specs.Lawful.{Pair}
 use Rattle.jb_chunk.specs.declared.outcome.Outcome.{Outcome}
 use Rattle.jb_chunk.specs.declared.outcome.Outcome.TheVariants.{Committed}
 use Rattle.jb_chunk.specs.Attempt.{AttemptEnd, attempt_of}
-use Rattle.jb_chunk.specs.Standing.{TaskState}
+use Rattle.jb_chunk.specs.TaskState.{TaskState}
 use Rattle.jb_step.specs.Tables.{Table, held_in, held_at}
 
 abbrev pub is_commit : Outcome → Bool

@@ -31,8 +31,8 @@ rounds_of plans = flat_map rounds_run plans
 abbrev pub table_after : List PlanRun → Table → Table
 table_after plans start = after_rounds (rounds_of plans) start
 
--- A least lawful plan for the chunks that were left, of which the first rounds were run, one at least. The certificate
--- holds, and no round before the last one that was run has a rollback or a failure.
+-- A least lawful plan for the chunks that were left. Its first rounds were run, one at least. The certificate holds, and no round before
+-- the last one that was run has a rollback or a failure.
 pub record IsPlanRun (s : Setup) (before : Table) (plan : PlanRun) : Type 0 where
   pub least : IsLeast (counts_now s before) s.threads plan.rounds
   pub certified : Holds (counts_now s before) s.threads (length plan.rounds) plan.certificate
@@ -59,7 +59,6 @@ AreOver before (plan ∷ later) = IsOver before plan × AreOver (after_rounds (r
 abbrev pub all_attempts : List PlanRun → Table → List AttemptEnd
 all_attempts plans start = attempts_of (rounds_of plans) start
 
--- the number of events of a run that nothing stopped: a Plan for each plan, a Round for each round, and for each attempt
--- its Begin and its outcome
+-- the number of events of a run that nothing stopped: a Plan for each plan, a Round for each round, and a Begin and an outcome for each attempt
 abbrev pub events_of : List PlanRun → Table → ℕ
 events_of plans start = length plans + length (rounds_of plans) + 2 * length (all_attempts plans start)

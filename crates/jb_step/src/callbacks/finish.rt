@@ -7,7 +7,7 @@ ghost use Rattle.jb_step.specs.inside.table.Places.{table_in};
 ghost use Rattle.jb_step.specs.Tables.{ArePlaced, held_in};
 
 use crate::preparing::prepared::Prepared;
-use crate::rounds::error::RunError;
+use crate::rounds::error::StepRunError;
 use crate::rounds::plan::row_of;
 use crate::rounds::runner::{RoundRunner, StepGate, StepLedger, StepTask, StepThreads};
 use jb_chunk::PartitionTask;
@@ -16,9 +16,9 @@ use jb_rules::Row;
 
 // The first partition whose row now isn't the one that is shown.
 fn first_other<T: PartitionTask>(rows: &[Row], held: &[Option<T>], shown: &[Row]) -> Option<u32>
-    requires placed { ArePlaced 0 (table_in T.standing held.now) }
+    requires placed { ArePlaced 0 (table_in T.task_state held.now) }
     requires few { length rows.now ≤ max_partitions }
-    ensures { result ≡ None → shown.now ≡ rows_now rows.now (held_in (table_in T.standing held.now)) }
+    ensures { result ≡ None → shown.now ≡ rows_now rows.now (held_in (table_in T.task_state held.now)) }
 {
     for (index, row) in rows.iter().enumerate() {
         let partition = index as u32;
@@ -41,14 +41,14 @@ impl<L: StepLedger, G: StepGate, R: StepThreads> RoundRunner<'_, L, G, R> {
         &self,
         prepared: &Prepared,
         held: &[Option<T>],
-    ) -> Result<Snapshot, RunError>
-        requires { ArePlaced 0 (table_in T.standing held.now) }
-        ensures { IfOk result (λ snapshot. snapshot.rows.items ≡ rows_now prepared.now.rows (held_in (table_in T.standing held.now))) }
+    ) -> Result<Snapshot, StepRunError>
+        requires { ArePlaced 0 (table_in T.task_state held.now) }
+        ensures { IfOk result (λ snapshot. snapshot.rows.items ≡ rows_now prepared.now.rows (held_in (table_in T.task_state held.now))) }
     {
         let snapshot = self.snapshot()?;
         let rows = prepared.begun_rows();
         if let Some(partition) = first_other(rows, held, snapshot.rows.as_slice()) {
-            return Err(RunError::Row(partition));
+            return Err(StepRunError::Row(partition));
         }
         Ok(snapshot)
     }

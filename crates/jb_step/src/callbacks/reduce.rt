@@ -6,7 +6,7 @@ ghost use Rattle.jb_rules.specs.States.{is_finished, is_failed};
 ghost use Rattle.jb_collect.specs.declared.calls.ReducerCall.TheVariants as act;
 ghost use Rattle.jb_collect.specs.declared.calls.Status.TheVariants.{Completed, Failed};
 ghost use Rattle.jb_collect.specs.ReducerCalls.{rolled_back};
-ghost use Rattle.jb_collect.specs.Taken.{Grew, calls_of, since};
+ghost use Rattle.jb_collect.specs.AnsweredCalls.{Grew, calls_of, since};
 ghost use Rattle.jb_step.specs.callbacks.Callbacks.{AreSome};
 ghost use Rattle.jb_step.specs.Answers.{AreCallsInPart, AreCallsUndone};
 ghost use Rattle.jb_step.specs.Statuses.{status_of};
@@ -14,7 +14,7 @@ ghost use Rattle.jb_step.specs.declared.error.StepError.TheVariants.{Memory};
 ghost use Rattle.jb_step.specs.inside.callbacks.Reducing.{IsEnding, IsReducing, callback_fault};
 
 use crate::error::StepError;
-use crate::rounds::error::RunError;
+use crate::rounds::error::StepRunError;
 use jb_base::ArtifactError;
 use jb_collect::{PartitionStatus, Reducer, Status};
 use jb_rules::Row;
@@ -33,7 +33,7 @@ fn some_unfinished(rows: &[Row]) -> bool
     rows.iter().any(|row| !row.state.is_finished())
 }
 
-/// How the step stands.
+/// The step's status.
 pub(crate) fn status_now(rows: &[Row], callback_failed: bool) -> Status
     ensures { result ≡ status_of rows.now callback_failed }
 {
@@ -52,19 +52,19 @@ fn either(one: bool, other: bool) -> bool
     one || other
 }
 
-// Whether a call was answered with a fault. The only error is want of memory.
-fn fault_in(answer: Result<(), ArtifactError>) -> Result<bool, RunError>
+// Whether a call was answered with a fault. The only error is `Memory`.
+fn fault_in(answer: Result<(), ArtifactError>) -> Result<bool, StepRunError>
     ensures { result ≡ callback_fault answer }
 {
     match answer {
         Ok(()) => Ok(false),
         Err(ArtifactError::Fault(_)) => Ok(true),
-        Err(ArtifactError::Memory) => Err(RunError::Memory),
+        Err(ArtifactError::Memory) => Err(StepRunError::Memory),
     }
 }
 
-/// Rolls the step back: both calls are made, whatever the first one answers.
-pub(crate) fn undo(reducer: &mut dyn Reducer) -> Result<bool, RunError>
+/// Rolls the step back: both calls are made, even if the first one answers an error.
+pub(crate) fn undo(reducer: &mut dyn Reducer) -> Result<bool, StepRunError>
     ensures calls { IfOk result (λ faulted. IsReducing rolled_back faulted false (since (reduced reducer.old) (reduced reducer.new))) }
     ensures some { AreSome (calls_of (since (reduced reducer.old) (reduced reducer.new))) rolled_back }
     ensures grew { Grew (reduced reducer.old) (reduced reducer.new) }
@@ -77,7 +77,7 @@ pub(crate) fn undo(reducer: &mut dyn Reducer) -> Result<bool, RunError>
     Ok(both)
 }
 
-/// Rolls the step back for this error. Where the reducer finds no memory for it, that is the error.
+/// Rolls the step back for this error. If the reducer is out of memory for it, the error is `Memory`.
 pub(crate) fn undone(error: StepError, reducer: &mut dyn Reducer) -> StepError
     ensures calls { AreCallsUndone result (since (reduced reducer.old) (reduced reducer.new)) }
     ensures same { (result ≡ error) ⊎ (result ≡ Memory) }
@@ -89,8 +89,8 @@ pub(crate) fn undone(error: StepError, reducer: &mut dyn Reducer) -> StepError
     }
 }
 
-// Calls `before_completion`; where it finds no memory, the step is rolled back.
-fn begin_completion(reducer: &mut dyn Reducer) -> Result<bool, RunError>
+// Calls `before_completion`; if it is out of memory, the step is rolled back.
+fn begin_completion(reducer: &mut dyn Reducer) -> Result<bool, StepRunError>
     ensures calls { IfOk result (λ faulted. IsReducing (act.Before ∷ []) faulted faulted (since (reduced reducer.old) (reduced reducer.new))) }
     ensures memory { OnErr result (AreSome (calls_of (since (reduced reducer.old) (reduced reducer.new))) rolled_back) }
     ensures grew { Grew (reduced reducer.old) (reduced reducer.new) }
@@ -105,15 +105,15 @@ fn begin_completion(reducer: &mut dyn Reducer) -> Result<bool, RunError>
     }
 }
 
-// How the step stands after more calls, by whether one of them was answered with a fault.
+// The step's status after more calls, by whether one of them was answered with a fault.
 fn status_after(status: Status, faulted: bool) -> Status
     ensures { result ≡ (if faulted then Failed else status) }
 {
     if faulted { Status::Failed } else { status }
 }
 
-// The calls where each partition is completed and no callback failed.
-fn complete(reducer: &mut dyn Reducer) -> Result<Status, RunError>
+// The calls if each partition is completed and no callback failed.
+fn complete(reducer: &mut dyn Reducer) -> Result<Status, StepRunError>
     ensures ending { IfOk result (λ ended. IsEnding Completed ended (since (reduced reducer.old) (reduced reducer.new))) }
     ensures memory { OnErr result (AreCallsInPart (since (reduced reducer.old) (reduced reducer.new))) }
     ensures grew { Grew (reduced reducer.old) (reduced reducer.new) }
@@ -128,8 +128,8 @@ fn complete(reducer: &mut dyn Reducer) -> Result<Status, RunError>
     Ok(status_after(Status::Completed, faulted))
 }
 
-/// The reducer's calls at the end of a step that stands so, and how it stands then. The only error is want of memory.
-pub(crate) fn end_step(status: Status, reducer: &mut dyn Reducer) -> Result<Status, RunError>
+/// Makes the reducer's calls at the end of a step with this status. Answers the status after them. The only error is `Memory`.
+pub(crate) fn end_step(status: Status, reducer: &mut dyn Reducer) -> Result<Status, StepRunError>
     ensures ending { IfOk result (λ ended. IsEnding status ended (since (reduced reducer.old) (reduced reducer.new))) }
     ensures memory { OnErr result (AreCallsInPart (since (reduced reducer.old) (reduced reducer.new))) }
     ensures grew { Grew (reduced reducer.old) (reduced reducer.new) }

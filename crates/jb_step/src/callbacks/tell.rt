@@ -1,16 +1,16 @@
-//! What the analyzer is told, and the fault that it answers.
+//! The analyzer's calls, and the fault that it answers.
 
 ghost use Rattle.std.specs.Prelude.{◌≤◌, ◌++◌, IfOk, [], ◌∷◌, length};
 ghost use Rattle.jb_base.specs.Limits.{max_partitions};
 ghost use Rattle.jb_collect.specs.declared.calls.AnalyzerCall.TheVariants as call;
 ghost use Rattle.jb_collect.specs.Heard.{collected_calls, ended_calls, endings_of, heard_first, heard_in, heard_last};
-ghost use Rattle.jb_collect.specs.Taken.{Grew, HasTaken};
+ghost use Rattle.jb_collect.specs.AnsweredCalls.{Grew, HasTaken};
 ghost use Rattle.jb_step.specs.inside.table.Places.{table_in};
 ghost use Rattle.jb_step.specs.Tables.{held_in};
 ghost use Rattle.jb_step.specs.inside.callbacks.Telling.{IsCallbackAnswer, IsHearing, empties, moment};
 
 use crate::preparing::prepared::Prepared;
-use crate::rounds::error::RunError;
+use crate::rounds::error::StepRunError;
 use jb_artifacts::Item;
 use jb_base::{ArtifactError, ClassId};
 use jb_chunk::{Done, PartitionTask};
@@ -18,23 +18,23 @@ use jb_collect::{Analyzer, Status, calls_end_at_a_fault, deliver, deliver_one};
 use jb_rules::Row;
 
 /// The fault that a callback answered, if it did.
-pub(crate) fn fault_of(answer: Result<(), ArtifactError>) -> Result<Option<ClassId>, RunError>
+pub(crate) fn fault_of(answer: Result<(), ArtifactError>) -> Result<Option<ClassId>, StepRunError>
     ensures { IfOk result (λ fault. IsCallbackAnswer answer fault) }
 {
     match answer {
         Ok(()) => Ok(None),
         Err(ArtifactError::Fault(class)) => Ok(Some(class)),
-        Err(ArtifactError::Memory) => Err(RunError::Memory),
+        Err(ArtifactError::Memory) => Err(StepRunError::Memory),
     }
 }
 
-/// Tells of a round, unless the analyzer answered a fault before.
+/// Reports a round, unless the analyzer answered a fault before.
 pub(crate) fn tell_round<T: PartitionTask>(
     dones: &[Done<T>],
     fault: Option<ClassId>,
     analyzer: &mut dyn Analyzer,
-) -> Result<Option<ClassId>, RunError>
-    ensures heard { IfOk result (λ now. IsHearing fault (analyzed analyzer.old) (heard_in (endings_of T.standing dones.now)) (moment (analyzed analyzer.new) now)) }
+) -> Result<Option<ClassId>, StepRunError>
+    ensures heard { IfOk result (λ now. IsHearing fault (analyzed analyzer.old) (heard_in (endings_of T.task_state dones.now)) (moment (analyzed analyzer.new) now)) }
     ensures grew { Grew (analyzed analyzer.old) (analyzed analyzer.new) }
 {
     if fault.is_some() {
@@ -44,14 +44,14 @@ pub(crate) fn tell_round<T: PartitionTask>(
     fault_of(answer)
 }
 
-/// Tells of one attempt that left this task, and hands its texts over, unless the analyzer answered a fault before.
+/// Reports one attempt, which left this task, and hands its texts over, unless the analyzer answered a fault before.
 pub(crate) fn tell_one<T: PartitionTask>(
     task: &T,
     texts: Vec<Item>,
     fault: Option<ClassId>,
     analyzer: &mut dyn Analyzer,
-) -> Result<Option<ClassId>, RunError>
-    ensures heard { let t = T.standing task.now in
+) -> Result<Option<ClassId>, StepRunError>
+    ensures heard { let t = T.task_state task.now in
         IfOk result (λ now. IsHearing fault (analyzed analyzer.old) (collected_calls t.partition texts.items ++ ended_calls t.partition t.row.state) (moment (analyzed analyzer.new) now)) }
     ensures grew { Grew (analyzed analyzer.old) (analyzed analyzer.new) }
 {
@@ -62,12 +62,12 @@ pub(crate) fn tell_one<T: PartitionTask>(
     fault_of(answer)
 }
 
-// Tells one status.
+// Reports one status.
 fn tell_status(
     partition: u32,
     status: Status,
     analyzer: &mut dyn Analyzer,
-) -> Result<Option<ClassId>, RunError>
+) -> Result<Option<ClassId>, StepRunError>
     ensures heard { IfOk result (λ fault. HasTaken (analyzed analyzer.old) (call.Status partition status ∷ []) fault (analyzed analyzer.new)) }
     ensures grew { Grew (analyzed analyzer.old) (analyzed analyzer.new) }
 {
@@ -75,11 +75,11 @@ fn tell_status(
     fault_of(answer)
 }
 
-/// Tells what is known at first: which ranges are empty.
+/// Reports what is known at first: which ranges are empty.
 pub(crate) fn tell_first(
     prepared: &Prepared,
     analyzer: &mut dyn Analyzer,
-) -> Result<Option<ClassId>, RunError>
+) -> Result<Option<ClassId>, StepRunError>
     ensures heard { IfOk result (λ fault. HasTaken (analyzed analyzer.old) (heard_first prepared.now.is_fresh prepared.now.rows) fault (analyzed analyzer.new)) }
     ensures grew { Grew (analyzed analyzer.old) (analyzed analyzer.new) }
 {
@@ -90,8 +90,8 @@ pub(crate) fn tell_first(
     tell_empties(rows, analyzer)
 }
 
-// Tells of the empty ranges.
-fn tell_empties(rows: &[Row], analyzer: &mut dyn Analyzer) -> Result<Option<ClassId>, RunError>
+// Reports the empty ranges.
+fn tell_empties(rows: &[Row], analyzer: &mut dyn Analyzer) -> Result<Option<ClassId>, StepRunError>
     requires { length rows.now ≤ max_partitions }
     ensures heard { IfOk result (λ fault. HasTaken (analyzed analyzer.old) (empties 0 rows.now) fault (analyzed analyzer.new)) }
     ensures grew { Grew (analyzed analyzer.old) (analyzed analyzer.new) }
@@ -106,12 +106,12 @@ fn tell_empties(rows: &[Row], analyzer: &mut dyn Analyzer) -> Result<Option<Clas
     Ok(None)
 }
 
-// Tells of a partition, where its range is empty.
+// Reports a partition, if its range is empty.
 fn tell_empty(
     partition: u32,
     row: &Row,
     analyzer: &mut dyn Analyzer,
-) -> Result<Option<ClassId>, RunError>
+) -> Result<Option<ClassId>, StepRunError>
     ensures heard { IfOk result (λ fault. HasTaken (analyzed analyzer.old) (empties partition (row.now ∷ [])) fault (analyzed analyzer.new)) }
     ensures grew { Grew (analyzed analyzer.old) (analyzed analyzer.new) }
 {
@@ -121,13 +121,13 @@ fn tell_empty(
     tell_status(partition, Status::Completed, analyzer)
 }
 
-/// Tells of the partitions that are left unfinished, unless the analyzer answered a fault before.
+/// Reports the partitions that are left unfinished, unless the analyzer answered a fault before.
 pub(crate) fn tell_last<T: PartitionTask>(
     held: &[Option<T>],
     fault: Option<ClassId>,
     analyzer: &mut dyn Analyzer,
-) -> Result<Option<ClassId>, RunError>
-    ensures heard { IfOk result (λ now. IsHearing fault (analyzed analyzer.old) (heard_last (held_in (table_in T.standing held.now))) (moment (analyzed analyzer.new) now)) }
+) -> Result<Option<ClassId>, StepRunError>
+    ensures heard { IfOk result (λ now. IsHearing fault (analyzed analyzer.old) (heard_last (held_in (table_in T.task_state held.now))) (moment (analyzed analyzer.new) now)) }
     ensures grew { Grew (analyzed analyzer.old) (analyzed analyzer.new) }
 {
     if fault.is_some() {
@@ -136,12 +136,12 @@ pub(crate) fn tell_last<T: PartitionTask>(
     tell_stopped(held, analyzer)
 }
 
-// Tells of the partitions that are left unfinished.
+// Reports the partitions that are left unfinished.
 fn tell_stopped<T: PartitionTask>(
     held: &[Option<T>],
     analyzer: &mut dyn Analyzer,
-) -> Result<Option<ClassId>, RunError>
-    ensures heard { IfOk result (λ fault. HasTaken (analyzed analyzer.old) (heard_last (held_in (table_in T.standing held.now))) fault (analyzed analyzer.new)) }
+) -> Result<Option<ClassId>, StepRunError>
+    ensures heard { IfOk result (λ fault. HasTaken (analyzed analyzer.old) (heard_last (held_in (table_in T.task_state held.now))) fault (analyzed analyzer.new)) }
     ensures grew { Grew (analyzed analyzer.old) (analyzed analyzer.new) }
 {
     calls_end_at_a_fault();
@@ -154,12 +154,12 @@ fn tell_stopped<T: PartitionTask>(
     Ok(None)
 }
 
-// Tells of the partition whose task stands in the place, where it is left unfinished.
+// Reports the partition whose task is in this place, if it is left unfinished.
 fn tell_unfinished<T: PartitionTask>(
     place: &Option<T>,
     analyzer: &mut dyn Analyzer,
-) -> Result<Option<ClassId>, RunError>
-    ensures heard { IfOk result (λ fault. HasTaken (analyzed analyzer.old) (heard_last (held_in (table_in T.standing (place.now ∷ [])))) fault (analyzed analyzer.new)) }
+) -> Result<Option<ClassId>, StepRunError>
+    ensures heard { IfOk result (λ fault. HasTaken (analyzed analyzer.old) (heard_last (held_in (table_in T.task_state (place.now ∷ [])))) fault (analyzed analyzer.new)) }
     ensures grew { Grew (analyzed analyzer.old) (analyzed analyzer.new) }
 {
     let Some(task) = place else {

@@ -2,7 +2,7 @@
 
 ghost use Rattle.std.specs.Prelude.{◌≡◌, ◌≤◌, ◌-◌, min, [], true, false, length, slice_get, option_copied, IfOk, IfErr, OnOk};
 ghost use Rattle.jb_base.specs.Limits.{max_partitions, max_parts};
-ghost use Rattle.jb_chunk.specs.Standing.{HasItemCount};
+ghost use Rattle.jb_chunk.specs.TaskState.{HasItemCount};
 ghost use Rattle.jb_step.specs.preparing.Setup.{IsSetup, fresh_rows, needs};
 ghost use Rattle.jb_saved.specs.GoingOn.{rows_restarted, step_faults};
 ghost use Rattle.jb_step.specs.inside.preparing.Fresh.{RefusesToGoOn, setup_of_rows};
@@ -46,7 +46,7 @@ impl Model for Prepared {
 }
 
 impl Prepared {
-    /// The rows of partitions that begin anew on the ranges of a checked plan. The only error is want of memory.
+    /// The rows of partitions that begin from the start on the ranges of a checked plan. It fails only if it is out of memory.
     pub(crate) fn fresh(alloc: Global, plan: &Checked, step: &Step) -> Result<Prepared, AllocError>
         ensures value { IfOk result (λ prepared. prepared ≡ setup_of_rows (fresh_rows plan.now.ranges) plan.now step.now true) }
         ensures setup { IfOk result (λ prepared. IsSetup prepared) }
@@ -56,7 +56,7 @@ impl Prepared {
         Prepared::with_rows(alloc, rows, plan, step, true)
     }
 
-    /// The rows of an earlier run that the plan doesn't discard; the failed ones wait again. Of the plan only the threads count.
+    /// The rows of an earlier run that the plan doesn't discard; the failed ones wait again. Only the plan's thread number counts.
     ///
     /// # Errors
     /// `Saved` with the first fault of the rows for this step (`rows_to_go_on`), and `Memory`.
@@ -76,7 +76,7 @@ impl Prepared {
         Ok(Prepared::with_rows(alloc, rows, plan, step, false)?)
     }
 
-    // These rows, on the threads of a checked plan. The only error is want of memory for the list of the unfinished.
+    // These rows, on the threads of a checked plan. It fails only if it is out of memory for the list of the unfinished.
     fn with_rows(
         alloc: Global,
         rows: Vec<Row>,
@@ -89,7 +89,7 @@ impl Prepared {
         ensures setup { IfOk result (λ prepared. IsSetup prepared) }
     {
         let rules = step.rules();
-        // Reading the limit tells the proof how high it may be.
+        // Unused, but it brings the type's invariant into the proof: how high the limit may be.
         let _limit = rules.retry_limit;
         let needs = needs_of(alloc, rows.as_slice())?;
         Ok(Prepared {
@@ -116,8 +116,8 @@ impl Prepared {
         self.rows.get(partition as usize)
     }
 
-    /// A new desk for the step: it has the prepared rows, and no event yet. `blank` is a ledger's with `MAX_PARTS` parts.
-    /// The only error is want of memory for the rows.
+    /// A new desk for the step: it has the prepared rows, and no event yet. `blank` is a ledger's with `MAX_PARTS` parts. It fails only if
+    /// it is out of memory for the rows.
     pub fn desk<L: Ledger>(&self, alloc: Global, blank: Blank) -> Result<Desk<L>, AllocError>
         requires name { blank.name ≡ L.name }
         requires parts { blank.parts ≡ L.parts }
@@ -136,7 +136,7 @@ impl Prepared {
         self.rows.as_slice()
     }
 
-    /// The same rows: each is sound, and its partition waits or is finished; there are at most 1,024.
+    /// The same rows, at most 1,024. Each is sound, and its partition waits or is finished.
     pub(crate) fn begun_rows(&self) -> &[Row]
         ensures value { result.now ≡ self.now.rows }
         ensures begun { AreBegun result.now }
@@ -161,8 +161,8 @@ impl Prepared {
         self.item_count
     }
 
-    /// How many workers of a pool its rounds can keep at work beside the caller's thread: one fewer than it has threads, or
-    /// unfinished partitions where these are fewer.
+    /// How many workers of a pool its rounds can keep at work beside the caller's thread. It is one fewer than its threads, or than its
+    /// unfinished partitions if these are fewer.
     pub fn workers(&self) -> usize
         ensures { result ≡ min (length (needs self.now.rows)) self.now.threads - 1 }
     {

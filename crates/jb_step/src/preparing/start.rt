@@ -12,7 +12,7 @@ ghost use Rattle.jb_step.specs.Tables.{ArePlaced, held_in};
 ghost use Rattle.jb_step.specs.inside.preparing.Starting.{IsRowBegun, tasks_from, unfinished_from};
 
 use crate::preparing::prepared::Prepared;
-use crate::rounds::error::RunError;
+use crate::rounds::error::StepRunError;
 use jb_artifacts::Meaning;
 use jb_chunk::PartitionTask;
 use jb_rules::Row;
@@ -53,11 +53,11 @@ pub(crate) fn start_all<T: PartitionTask>(
     alloc: Global,
     prepared: &Prepared,
     artifacts: Vec<T::Artifacts>,
-) -> Result<Vec<Option<T>>, RunError>
+) -> Result<Vec<Option<T>>, StepRunError>
     requires { DoFit prepared.now (map T.Artifacts.meaning artifacts.items) }
-    ensures tasks { IfOk result (λ tasks. table_in T.standing tasks.items ≡ first_table prepared.now (map T.Artifacts.meaning artifacts.items)) }
-    ensures held { IfOk result (λ tasks. held_in (table_in T.standing tasks.items) ≡ first_tasks prepared.now (map T.Artifacts.meaning artifacts.items)) }
-    ensures table { IfOk result (λ tasks. IsTaskTable prepared.now (table_in T.standing tasks.items)) }
+    ensures tasks { IfOk result (λ tasks. table_in T.task_state tasks.items ≡ first_table prepared.now (map T.Artifacts.meaning artifacts.items)) }
+    ensures held { IfOk result (λ tasks. held_in (table_in T.task_state tasks.items) ≡ first_tasks prepared.now (map T.Artifacts.meaning artifacts.items)) }
+    ensures table { IfOk result (λ tasks. IsTaskTable prepared.now (table_in T.task_state tasks.items)) }
 {
     let mut tasks = Vec::new(alloc);
     let mut artifacts = artifacts.into_iter();
@@ -74,15 +74,15 @@ fn start_row<T: PartitionTask>(
     prepared: &Prepared,
     row: &Row,
     artifacts: &mut IntoIter<T::Artifacts, Global>,
-) -> Result<(), RunError>
+) -> Result<(), StepRunError>
     requires fit { (rest : List Row) × FitRows (unfinished_from (length tasks.old.items) (row.now ∷ rest)) (map T.Artifacts.meaning (into_iter_items artifacts.old)) }
     requires begun { IsRowBegun row.now }
     requires few { length tasks.old.items < max_partitions }
-    requires placed { ArePlaced 0 (table_in T.standing tasks.old.items) }
-    ensures placed { OnOk result (ArePlaced 0 (table_in T.standing tasks.new.items)) }
+    requires placed { ArePlaced 0 (table_in T.task_state tasks.old.items) }
+    ensures placed { OnOk result (ArePlaced 0 (table_in T.task_state tasks.new.items)) }
     ensures length { OnOk result (length tasks.new.items ≡ length tasks.old.items + 1) }
     ensures fit { (rest : List Row) → FitRows (unfinished_from (length tasks.old.items) (row.now ∷ rest)) (map T.Artifacts.meaning (into_iter_items artifacts.old)) → OnOk result (FitRows (unfinished_from (length tasks.old.items + 1) rest) (map T.Artifacts.meaning (into_iter_items artifacts.new))) }
-    ensures tasks { (rest : List Row) → FitRows (unfinished_from (length tasks.old.items) (row.now ∷ rest)) (map T.Artifacts.meaning (into_iter_items artifacts.old)) → OnOk result (held_in (table_in T.standing tasks.new.items) ++ tasks_from prepared.now (length tasks.old.items + 1) rest (map T.Artifacts.meaning (into_iter_items artifacts.new)) ≡ held_in (table_in T.standing tasks.old.items) ++ tasks_from prepared.now (length tasks.old.items) (row.now ∷ rest) (map T.Artifacts.meaning (into_iter_items artifacts.old))) }
+    ensures tasks { (rest : List Row) → FitRows (unfinished_from (length tasks.old.items) (row.now ∷ rest)) (map T.Artifacts.meaning (into_iter_items artifacts.old)) → OnOk result (held_in (table_in T.task_state tasks.new.items) ++ tasks_from prepared.now (length tasks.old.items + 1) rest (map T.Artifacts.meaning (into_iter_items artifacts.new)) ≡ held_in (table_in T.task_state tasks.old.items) ++ tasks_from prepared.now (length tasks.old.items) (row.now ∷ rest) (map T.Artifacts.meaning (into_iter_items artifacts.old))) }
 {
     let partition = tasks.len() as u32;
     if row.state.is_finished() {
@@ -107,10 +107,10 @@ fn start_row<T: PartitionTask>(
 fn add_place<T: PartitionTask>(
     places: &mut Vec<Option<T>>,
     place: Option<T>,
-) -> Result<(), RunError>
-    ensures items { OnOk result (held_in (table_in T.standing places.new.items) ≡ held_in (table_in T.standing places.old.items) ++ held_in (table_in T.standing (place ∷ []))) }
+) -> Result<(), StepRunError>
+    ensures items { OnOk result (held_in (table_in T.task_state places.new.items) ≡ held_in (table_in T.task_state places.old.items) ++ held_in (table_in T.task_state (place ∷ []))) }
     ensures length { OnOk result (length places.new.items ≡ length places.old.items + 1) }
-    ensures placed { ArePlaced 0 (table_in T.standing places.old.items) → ArePlaced (length places.old.items) (table_in T.standing (place ∷ [])) → OnOk result (ArePlaced 0 (table_in T.standing places.new.items)) }
+    ensures placed { ArePlaced 0 (table_in T.task_state places.old.items) → ArePlaced (length places.old.items) (table_in T.task_state (place ∷ [])) → OnOk result (ArePlaced 0 (table_in T.task_state places.new.items)) }
 {
     places.push(place)?;
     Ok(())

@@ -11,59 +11,59 @@ use std::alloc::{AllocError, AllocFailed};
 
 /// Why the rounds of a step have no end.
 #[derive(Clone, Copy, Debug, PartialEq, Eq)]
-pub(crate) enum RunError {
+pub(crate) enum StepRunError {
     /// The desk's row of this partition isn't the step's own.
     Row(u32),
     /// The desk was used by another, or it refused an event.
     Desk,
     /// A worker could not be started.
     Workers,
-    /// There was no memory.
+    /// Out of memory.
     Memory,
 }
 
-impl RunError {
+impl StepRunError {
     /// The same, as a step of so many rows answers it.
     pub(crate) fn of_step(self, rows: u32) -> StepError
         ensures wrong { result ≡ WrongArtifacts → ⊥ }
         ensures causes { IsRunError result }
     {
         match self {
-            RunError::Row(partition) => StepError::Repository(partition),
-            RunError::Desk => StepError::Repository(rows),
-            RunError::Workers => StepError::Workers,
-            RunError::Memory => StepError::Memory,
+            StepRunError::Row(partition) => StepError::Repository(partition),
+            StepRunError::Desk => StepError::Repository(rows),
+            StepRunError::Workers => StepError::Workers,
+            StepRunError::Memory => StepError::Memory,
         }
     }
 }
 
-impl From<Refused> for RunError {
-    fn from(refused: Refused) -> RunError {
+impl From<Refused> for StepRunError {
+    fn from(refused: Refused) -> StepRunError {
         match refused {
-            Refused::Memory => RunError::Memory,
-            _ => RunError::Desk,
+            Refused::Memory => StepRunError::Memory,
+            _ => StepRunError::Desk,
         }
     }
 }
 
-impl From<RoundError> for RunError {
-    fn from(error: RoundError) -> RunError {
+impl From<RoundError> for StepRunError {
+    fn from(error: RoundError) -> StepRunError {
         match error {
             RoundError::Refused(refused) => refused.into(),
-            RoundError::WorkerNotStarted => RunError::Workers,
-            RoundError::Memory => RunError::Memory,
+            RoundError::WorkerNotStarted => StepRunError::Workers,
+            RoundError::Memory => StepRunError::Memory,
         }
     }
 }
 
-impl From<AllocError> for RunError {
-    fn from(_: AllocError) -> RunError {
-        RunError::Memory
+impl From<AllocError> for StepRunError {
+    fn from(_: AllocError) -> StepRunError {
+        StepRunError::Memory
     }
 }
 
-impl<T: Drop> From<AllocFailed<T>> for RunError {
-    fn from(_: AllocFailed<T>) -> RunError {
-        RunError::Memory
+impl<T: Drop> From<AllocFailed<T>> for StepRunError {
+    fn from(_: AllocFailed<T>) -> StepRunError {
+        StepRunError::Memory
     }
 }

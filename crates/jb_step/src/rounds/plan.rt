@@ -1,7 +1,7 @@
 //! A plan for what is left, and its rounds.
 
 ghost use Rattle.std.specs.Prelude.{◌≡◌, ◌+◌, ◌++◌, ◌∷◌, [], false, IfOk, OnOk};
-ghost use Rattle.jb_collect.specs.Taken.{Grew};
+ghost use Rattle.jb_collect.specs.AnsweredCalls.{Grew};
 ghost use Rattle.jb_step.specs.rounds.PlanLaws.{IsTaskTable};
 ghost use Rattle.jb_step.specs.rounds.Runs.{note_of};
 ghost use Rattle.jb_step.specs.preparing.Setup.{row_now, counts_now};
@@ -10,9 +10,9 @@ ghost use Rattle.jb_step.specs.inside.rounds.Round.{progress, table_of};
 ghost use Rattle.jb_step.specs.inside.table.Places.{table_in};
 ghost use Rattle.jb_step.specs.Tables.{ArePlaced, held_in};
 
-use crate::laws::laws_below;
+use crate::laws::lower_laws;
 use crate::preparing::prepared::Prepared;
-use crate::rounds::error::RunError;
+use crate::rounds::error::StepRunError;
 use crate::rounds::ran::Ran;
 use crate::rounds::runner::{RoundRunner, StepGate, StepLedger, StepTask, StepThreads};
 use jb_cert::{PlanNote, fits};
@@ -23,14 +23,14 @@ use jb_rules::Row;
 use jb_workers::Pool;
 use std::alloc::Global;
 
-/// The row of a partition now: its task's, or `row` where none is held.
+/// The row of a partition now: its task's, or `row` if it has no task.
 pub(crate) fn row_of<'a, T: PartitionTask>(
     held: &'a [Option<T>],
     partition: u32,
     row: &'a Row,
 ) -> &'a Row
-    requires { ArePlaced 0 (table_in T.standing held.now) }
-    ensures { result.now ≡ row_now (held_in (table_in T.standing held.now)) partition row.now }
+    requires { ArePlaced 0 (table_in T.task_state held.now) }
+    ensures { result.now ≡ row_now (held_in (table_in T.task_state held.now)) partition row.now }
 {
     match held.get(partition as usize) {
         Some(place) => match place {
@@ -46,9 +46,9 @@ fn counts_of<T: PartitionTask>(
     alloc: Global,
     prepared: &Prepared,
     held: &[Option<T>],
-) -> Result<Vec<u64>, RunError>
-    requires { IsTaskTable prepared.now (table_in T.standing held.now) }
-    ensures { IfOk result (λ counts. counts.items ≡ counts_now prepared.now (table_in T.standing held.now)) }
+) -> Result<Vec<u64>, StepRunError>
+    requires { IsTaskTable prepared.now (table_in T.task_state held.now) }
+    ensures { IfOk result (λ counts. counts.items ≡ counts_now prepared.now (table_in T.task_state held.now)) }
 {
     let rows = prepared.begun_rows();
     let mut counts = Vec::with_capacity(alloc, rows.len())?;
@@ -61,7 +61,7 @@ fn counts_of<T: PartitionTask>(
 }
 
 // Notes a plan of which so many rounds were run.
-fn take_note(cursor: &RoundCursor, ran: u64, notes: &mut Vec<PlanNote>) -> Result<(), RunError>
+fn take_note(cursor: &RoundCursor, ran: u64, notes: &mut Vec<PlanNote>) -> Result<(), StepRunError>
     ensures { OnOk result (notes.new.items ≡ notes.old.items ++ note_of (plan_run_of cursor.now ran) ∷ []) }
 {
     let note = PlanNote {
@@ -80,25 +80,25 @@ impl<L: StepLedger, G: StepGate, R: StepThreads> RoundRunner<'_, L, G, R> {
         alloc: Global,
         prepared: &Prepared,
         held: &[Option<T>],
-    ) -> Result<RoundCursor, RunError>
-        requires { IsTaskTable prepared.now (table_in T.standing held.now) }
-        ensures { IfOk result (λ cursor. IsPlanFor prepared.now (table_in T.standing held.now) (plan_run_of cursor 0)) }
+    ) -> Result<RoundCursor, StepRunError>
+        requires { IsTaskTable prepared.now (table_in T.task_state held.now) }
+        ensures { IfOk result (λ cursor. IsPlanFor prepared.now (table_in T.task_state held.now) (plan_run_of cursor 0)) }
     {
         let counts = counts_of(alloc, prepared, held)?;
         let threads = prepared.threads();
         if !fits(counts.as_slice(), threads) {
-            return Err(RunError::Row(0));
+            return Err(StepRunError::Row(0));
         }
         let cursor = RoundCursor::new(alloc, counts.as_slice(), threads)?;
         let rounds = cursor.rounds();
         if rounds < 1 {
-            return Err(RunError::Row(0));
+            return Err(StepRunError::Row(0));
         }
         self.plan(rounds, cursor.certificate())?;
         Ok(cursor)
     }
 
-    // True where no round more may be run: a stop was asked for, or the limit is reached.
+    // True if no further round may be run: a stop was asked for, or the limit is reached.
     fn is_cut(&self, round_limit: Option<u64>, rounds: u64) -> bool
         ensures { result ≡ false → AreWithin round_limit (rounds + 1) }
     {
@@ -111,8 +111,8 @@ impl<L: StepLedger, G: StepGate, R: StepThreads> RoundRunner<'_, L, G, R> {
         }
     }
 
-    /// Runs a least plan for what is left, round after round, until one has a rollback or a failure, or all were run; or until a
-    /// stop, or the limit. Answers whether the step stops.
+    /// Runs a least plan for what is left, round after round. It ends after a round with a rollback or a failure, after the last round, at
+    /// a stop, or at the limit. Answers whether the step stops.
     pub(crate) fn run_plan<T: StepTask>(
         &self,
         pool: &mut Pool<T, L>,
@@ -121,14 +121,14 @@ impl<L: StepLedger, G: StepGate, R: StepThreads> RoundRunner<'_, L, G, R> {
         ran: &mut Ran<T>,
         analyzer: &mut dyn Analyzer,
         round_limit: Option<u64>,
-    ) -> Result<bool, RunError>
-        requires table { IsTaskTable prepared.now (table_of T.standing ran.old) }
+    ) -> Result<bool, StepRunError>
+        requires table { IsTaskTable prepared.now (table_of T.task_state ran.old) }
         requires few { AreWithin round_limit ran.old.rounds }
-        ensures run { IfOk result (λ stopped. IsRunOfStepSoFar prepared.now round_limit stopped (progress T.standing (analyzed analyzer.old) ran.old) (progress T.standing (analyzed analyzer.new) ran.new)) }
-        ensures table { OnOk result (IsTaskTable prepared.now (table_of T.standing ran.new)) }
+        ensures run { IfOk result (λ stopped. IsRunOfStepSoFar prepared.now round_limit stopped (progress T.task_state (analyzed analyzer.old) ran.old) (progress T.task_state (analyzed analyzer.new) ran.new)) }
+        ensures table { OnOk result (IsTaskTable prepared.now (table_of T.task_state ran.new)) }
         ensures grew { Grew (analyzed analyzer.old) (analyzed analyzer.new) }
     {
-        laws_below();
+        lower_laws();
         if self.is_cut(round_limit, ran.rounds) {
             return Ok(true);
         }

@@ -16,7 +16,7 @@ pub(crate) struct Ran<T> {
     pub rounds: u64,
     /// How many attempts were made.
     pub attempts: u64,
-    /// The partition of the last round of one slot, near which the next one's stands; 0 before there was one.
+    /// The partition of the last round of one slot; the next one's is near it. 0 before the first such round.
     pub near: u32,
     /// Whether the rounds ended before the tasks.
     pub stopped: bool,

@@ -6,7 +6,7 @@ ghost use Rattle.jb_workers.specs.Round.{AreDones};
 ghost use Rattle.jb_workers.specs.Turns.{IsDoneOf};
 ghost use Rattle.jb_workers.specs.Works.{AllCanBegin, CanBegin, RiseByPartition};
 
-use crate::rounds::error::RunError;
+use crate::rounds::error::StepRunError;
 use jb_cert::Certificate;
 use jb_chunk::{Done, Outcome, PartitionTask};
 use jb_repo::{Event, Refused, Snapshot};
@@ -55,17 +55,17 @@ impl<'a, L: StepLedger, G: StepGate, R: StepThreads> RoundRunner<'a, L, G, R> {
         self.desk.apply(self.rt, Event::Stop)
     }
 
-    /// Attempts the works' next chunks, each once and with memory, and closes the round: by the pool, where it has a worker for
-    /// each work but one, else over threads of the round's own. The attempts come in the order of the works.
+    /// Attempts the works' next chunks, each once and with memory, and closes the round. The pool does it, if it has a worker for each work
+    /// but one. Otherwise the round starts threads. The attempts come in the order of the works.
     pub(crate) fn run_round<T: StepTask>(
         &self,
         alloc: Global,
         pool: &mut Pool<T, L>,
         works: Vec<Work<T>>,
-    ) -> Result<Vec<Done<T>>, RunError>
-        requires can { AllCanBegin T.standing works.items }
-        requires rise { RiseByPartition T.standing works.items }
-        ensures dones { IfOk result (λ dones. AreDones T.standing works.items dones.items) }
+    ) -> Result<Vec<Done<T>>, StepRunError>
+        requires can { AllCanBegin T.task_state works.items }
+        requires rise { RiseByPartition T.task_state works.items }
+        ensures dones { IfOk result (λ dones. AreDones T.task_state works.items dones.items) }
         ensures whole { IfOk result (λ dones. AreWhole dones.items) }
     {
         let dones = if works.len() > pool.workers().saturating_add(1) {
@@ -75,7 +75,7 @@ impl<'a, L: StepLedger, G: StepGate, R: StepThreads> RoundRunner<'a, L, G, R> {
                 .run_round_by(self.rt, alloc, self.gate, pool, works)?
         };
         if !are_whole(dones.as_slice()) {
-            return Err(RunError::Memory);
+            return Err(StepRunError::Memory);
         }
         Ok(dones)
     }
@@ -85,14 +85,14 @@ impl<'a, L: StepLedger, G: StepGate, R: StepThreads> RoundRunner<'a, L, G, R> {
         &self,
         alloc: Global,
         only: Work<T>,
-    ) -> Result<Done<T>, RunError>
-        requires { CanBegin (T.standing only.task) }
-        ensures done { IfOk result (λ done. IsDoneOf T.standing only done) }
+    ) -> Result<Done<T>, StepRunError>
+        requires { CanBegin (T.task_state only.task) }
+        ensures done { IfOk result (λ done. IsDoneOf T.task_state only done) }
         ensures whole { IfOk result (λ done. had_memory done.outcome ≡ true) }
     {
         let done = self.desk.run_one(self.rt, alloc, self.gate, only)?;
         if !is_whole(&done) {
-            return Err(RunError::Memory);
+            return Err(StepRunError::Memory);
         }
         Ok(done)
     }
@@ -108,7 +108,7 @@ impl<'a, L: StepLedger, G: StepGate, R: StepThreads> RoundRunner<'a, L, G, R> {
     }
 }
 
-// True where each attempt had memory.
+// True if each attempt had memory.
 fn are_whole<T: PartitionTask>(dones: &[Done<T>]) -> bool
     ensures { result ≡ true → AreWhole dones.now }
 {

@@ -1,4 +1,4 @@
-//! How the tests tell what comes of a step.
+//! How the tests write what comes of a step.
 
 use crate::collect::{add_reduced, line_of};
 use crate::lines::add_row;
@@ -10,7 +10,7 @@ use jb_rules::Row;
 use jb_step::{PlanNote, StepEnd, StepError};
 use std::alloc::{AllocError, Global};
 
-/// Adds a line that tells how a partition stands: its row's numbers, its state and its outputs, if it has artifacts.
+/// Adds a line for a partition: its row's numbers, its state and its outputs, if it has artifacts.
 pub(crate) fn add_partition(
     text: &mut String,
     alloc: Global,
@@ -34,7 +34,7 @@ fn add_outputs(text: &mut String, alloc: Global, writer: &ListWriter) -> Result<
     Ok(())
 }
 
-/// Adds what a run answered: its plans; or, where it has no answer, why, and the numbers of events and of plans of its history. Then the
+/// Adds what a run answered: its plans, or, if it has no answer, why, and the numbers of events and of plans of its history. Then the
 /// analyzer's calls, the reducer's, and, if it has an answer, the status and the number of events.
 pub(crate) fn add_answer(
     text: &mut String,

@@ -16,12 +16,12 @@ use std::test::*;
 /// The step's id.
 pub(crate) const STEP: &str = "step";
 
-/// A mapper that answers a fault of this class, or finds no memory.
+/// A mapper that answers a fault of this class, or is out of memory.
 #[derive(Drop)]
 struct Failing {
     class: ClassId,
     lacking: bool,
-    /// How often it was asked.
+    /// How often it was called.
     asked: u64,
 }
 
@@ -55,8 +55,8 @@ fn begun_by(
     Ok(prepare(alloc, &step, records, mapper, reducer, saved))
 }
 
-/// What the step of the line begins with. Where its mapper is `failing`, by a fault or, `forgetful`, for want of memory, it is written how often
-/// that was asked.
+/// What the step of the line begins with. Its mapper may be `failing`, by a fault or, if `forgetful`, out of memory. Then it is written how
+/// often the mapper was called.
 pub(crate) fn begun(
     alloc: Global,
     line: &str,

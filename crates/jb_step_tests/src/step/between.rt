@@ -30,7 +30,7 @@ impl Between {
         }
     }
 
-    /// The rows that the line's run goes on from: those of its own text, or those that the run before left.
+    /// The rows that the line's run resumes from: those in the line, or those that the run before left.
     pub(crate) fn saved(&self, alloc: Global, line: &str) -> Result<Option<Saved>, Fail> {
         if let Some(text) = value(line, "saved") {
             return Ok(Some(read_saved(alloc, text.as_bytes())?));
@@ -41,8 +41,8 @@ impl Between {
         }
     }
 
-    /// The artifacts of these partitions: those that were handed back, or new ones; or, of a run with `new` ones, new ones with the writers of
-    /// those. Where the run is `short` of artifacts, the last one's are missing.
+    /// The artifacts of these partitions: those that were handed back, or new ones. A run with `new` ones gets new ones with the writers of
+    /// those that were handed back. If the run is `short` of artifacts, the last one's are missing.
     pub(crate) fn artifacts(
         &mut self,
         alloc: Global,
@@ -114,7 +114,7 @@ impl Between {
         Ok(())
     }
 
-    /// Adds how each partition stands; one that had nothing to do has no artifacts.
+    /// Adds a line for each partition; one that had nothing to do has no artifacts.
     pub(crate) fn add_to(&self, text: &mut String, alloc: Global) -> Result<(), AllocError> {
         for (partition, row) in (0..1_024).zip(self.rows.iter()) {
             add_partition(text, alloc, row, self.own(partition))?;

@@ -1,10 +1,10 @@
-//! Callbacks that fail, or find no memory at the end of a step.
+//! Callbacks that fail, or are out of memory at the end of a step.
 
 use crate::step::runs::assert_told;
 use std::test::*;
 
-/// A callback's fault makes the step failed; where one finds no memory, the step has no answer. Both change no call after it, but
-/// that `before_completion` is followed by a rollback, and that the analyzer hears nothing behind its fault; and no partition.
+/// A callback's fault makes the step failed; if one is out of memory, the step has no answer. Neither changes a partition. Neither changes
+/// a later call, with two exceptions: `before_completion` is followed by a rollback, and the analyzer hears nothing after its fault.
 const CALLBACKS: &str = "> records=abc/de/fg/ analyzer=1
 [0, 1, 2]
 Longest(0) 2 of 2

@@ -19,8 +19,8 @@ pub(crate) type GivenArtifacts = ArtifactsOf<TableReader, Processor, ListWriter,
 /// A partition's task.
 pub(crate) type Letters = Task<GivenArtifacts>;
 
-/// A processor that puts an x before each record, and finds no memory the first time that it gets the record of this number. Before that
-/// it comes to its meetings, if it has some.
+/// A processor that puts an x before each record. It is out of memory the first time that it gets the record of this number. Before that it
+/// comes to its meetings, if it has some.
 #[derive(Drop)]
 pub(crate) struct Processor {
     prefix: PrefixProcessor,
@@ -45,9 +45,9 @@ impl ItemProcessor for Processor {
 
 /// The records of a line, and their partitions.
 ///
-/// They are written as a text: each letter is a record, and each `/` ends a partition. Behind a letter stands how it fails to be
-/// processed: `!` each time, `?` and `*` the first time. The class of `?` is 1, that of the others 0. `~` is no fault: the first time
-/// that the record is processed, there is no memory.
+/// They are written as a text: each letter is a record, and each `/` ends a partition. The mark after a letter says how its processing
+/// fails: `!` each time, `?` and `*` the first time. The class of `?` is 1, that of the others 0. `~` is no fault: the first time that the
+/// record is processed, there is no memory.
 #[derive(Drop)]
 pub(crate) struct Given {
     records: PackedList,
@@ -116,7 +116,7 @@ impl Given {
         }
     }
 
-    /// The results of the row's records before its place, but for those that fail each time.
+    /// The results of the row's records before its checkpoint, but for those that fail each time.
     fn written(&self, alloc: Global, row: &Row) -> Result<PackedList, AllocError> {
         let mut written = PackedList::new(alloc);
         for index in 0..self.records.len() {
@@ -156,8 +156,8 @@ pub(crate) fn artifacts(alloc: Global, line: &str) -> Result<GivenArtifacts, All
     Given::read(alloc, line)?.artifacts(alloc, PackedList::new(alloc))
 }
 
-/// The artifacts of one partition of records of which none was left out but those that fail each time that they are processed,
-/// whose writer has what was written up to the row's place.
+/// The artifacts of one partition of records. Only the records that fail each time that they are processed were left out. The writer has
+/// what was written up to the row's checkpoint.
 pub(crate) fn artifacts_from(
     alloc: Global,
     line: &str,

@@ -1,18 +1,18 @@
-//! A reducer that can find no memory.
+//! A reducer that can be out of memory.
 
 use crate::lines::{number, value};
 use jb_base::{ArtifactError, ClassId};
 use jb_collect::{ListReducer, PartitionStatus, Reducer, ReducerCall};
 use std::alloc::Global;
 
-/// A reducer that finds no memory for one of its calls, if one is named.
+/// A reducer that is out of memory for one of its calls, if one is named.
 #[derive(Drop)]
 pub(crate) struct Lacking {
     list: ListReducer,
     call: Option<ReducerCall>,
 }
 
-/// The call that finds no memory.
+/// The call that is out of memory.
 fn lacking_call(line: &str) -> Option<ReducerCall> {
     match value(line, "lacking")? {
         "begin" => Some(ReducerCall::Begin),
@@ -26,7 +26,7 @@ fn lacking_call(line: &str) -> Option<ReducerCall> {
 
 impl Lacking {
     /// The reducer of the line: the call of the number `fault`, the first being 0, is answered with a fault of class 3, and the call
-    /// `lacking` finds no memory.
+    /// `lacking` is out of memory.
     pub(crate) fn told(alloc: Global, line: &str) -> Lacking {
         let fault = match number(line, "fault") {
             Some(number) => Some((number, ClassId::new(3))),

@@ -1,5 +1,5 @@
 //! Four lanes that wait for each other in both rounds of a step: their processors at each chunk's first record, and the lanes until the
-//! chunks of all four stand in the table.
+//! chunks of all four are in the table.
 
 ghost use Rattle.std.specs.Prelude.{◌≡◌};
 ghost use Rattle.jb_base.specs.Limits.{max_parts};
@@ -182,7 +182,7 @@ fn met_at<L: Ledger + Send + Sync + 'static, R: Threads + Wait + Clock + Sync>(
     Ok(text)
 }
 
-/// The same on a desk of its own.
+/// The same on its own desk.
 fn meet<L: Ledger + Send + Sync + 'static, R: Threads + Wait + Clock + Sync>(
     way: Way,
     rt: &R,

@@ -1,4 +1,4 @@
-//! Want of memory, or of workers, in a step.
+//! A step that is out of memory, or has no workers.
 
 use crate::step::between::Between;
 use crate::step::rows::{ROWS, SEVEN, Worked};
@@ -14,7 +14,7 @@ use std::thread::Threads;
 /// A restart on one thread and without faults.
 struct Unmet {
     line: &'static str,
-    /// What its partitions come to where none of the faults was met, and where some were.
+    /// What its partitions come to if none of the faults was met, and if some were.
     partitions: [&'static str; 2],
 }
 
@@ -47,7 +47,7 @@ const UNMET: [Unmet; 4] = [
     },
 ];
 
-/// Runs the row's step. Where it got no desk, for want of memory, nothing was begun, and it is run anew.
+/// Runs the row's step. If it got no desk, being out of memory, nothing was run, and it is run again.
 fn first_run<R: Threads + Wait + Sync>(
     way: Way,
     rt: &R,
@@ -105,10 +105,10 @@ fn tried<R: Threads + Wait + Abort + Sync>(
     assert_restarted(way, rt, alloc, row, unmet, &mut between)
 }
 
-/// `tests/refused-memory` runs it also with each request for memory refused in turn, and `tests/no-worker` where no thread can be made:
-/// the step has its whole answer, or says what it lacked, and then a restart on one thread, which needs no worker, and without faults
-/// is completed. Where the step found no memory for its desk, it has its whole answer when it is run anew. Where a request of the
-/// test's own is refused, the test ends with that error.
+/// `tests/refused-memory` runs it also with each request for memory refused in turn, and `tests/no-worker` where no thread can be made. The
+/// step has its whole answer, or says what it lacked. In the second case a restart on one thread, which needs no worker, and without faults
+/// is completed. If the step found no memory for its desk, it has its whole answer when it is run again. If one of the test's own requests
+/// is refused, the test ends with that error.
 #[test]
 fn memory_refused(rt: HostRuntime) -> Result<(), Fail> {
     for way in BOTH_WAYS {

@@ -3,11 +3,11 @@
 use crate::step::runs::assert_told;
 use std::test::*;
 
-/// The first row that differs is named, else the number of rows. Of a round that has no answer the Commits stand in the history, and
-/// Round doesn't.
+/// The first row that differs is named, else the number of rows. If a round has no answer, its Commits are in the history, and Round isn't.
 ///
-/// Other rows; a plan in the history; one thread, where a plan for two is refused. Then a partition that can't begin: it had as many
-/// rollbacks as it may; the same of the second one, while the first one commits; there is no room for the repeats in place of one more chunk.
+/// Other rows. A plan in the history. One thread, where a plan for two is refused. Then partitions that can't begin. One had as many
+/// rollbacks as it may. The same as the second of two, while the first one commits. One has no room for the repeats in place of one more
+/// chunk.
 const DESKS: &str = r#"> records=ab/c/ on records=ab/cd/
 [0, 1]
 Repository(1) 0 0
@@ -55,9 +55,9 @@ fn desks_are_refused(rt: HostRuntime) -> Result<(), Fail> {
     assert_told(&rt, rt.alloc(), DESKS)
 }
 
-/// Six records on the desk of the same step with three records a chunk, where of either partition chunks of two and of three are equally
-/// many: the desk refuses the Commit of partition 0, and Round isn't there. Nothing that was committed is lost: from the rows of that desk
-/// new artifacts and a new desk go on, and the step ends as the one that nothing disturbs.
+/// Six records on the desk of the same step with three records a chunk. Each partition has as many chunks of three records as of two. The
+/// desk refuses the Commit of partition 0, and Round isn't there. Nothing that was committed is lost: new artifacts and a new desk resume
+/// from the rows of that desk, and the step ends as the one that nothing disturbs.
 const REFUSED: &str = "> records=abcd/ef/ on records=abcd/ef/ items=3
 [0, 1]
 Repository(2) 5 1

@@ -3,8 +3,8 @@
 use crate::step::runs::assert_told;
 use std::test::*;
 
-/// The first refusal in the order is answered. Where `begin` was answered well, the reducer is rolled back then, as far as it finds
-/// memory. A mapper that fails, or finds no memory, is asked once, and only where `begin` was answered well. There may be artifacts for one
+/// The first refusal in the order is answered. If `begin` was answered well, the reducer is rolled back then, as far as it has memory for
+/// it. A mapper that fails, or is out of memory, is called once, and only if `begin` was answered well. There may be artifacts for one
 /// partition alone, and a desk with the row of another step, or both.
 const REFUSALS: &str = r#"> records=ab/c/ failing
 asked 1

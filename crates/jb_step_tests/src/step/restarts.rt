@@ -1,5 +1,5 @@
-//! Steps that are run again from their saved texts with the artifacts that were handed back, after a stop or want of memory, each beside
-//! the step that nothing stops.
+//! Steps that are run again from their saved texts with the artifacts that were handed back, after a stop or a lack of memory. Each is
+//! beside the step that nothing stops.
 
 use crate::step::between::Between;
 use crate::step::rows::{ROWS, Worked};
@@ -11,8 +11,7 @@ use std::sync::Wait;
 use std::test::*;
 use std::thread::Threads;
 
-/// The processor of the second of two partitions finds no memory, once; the restart has new artifacts. Nothing that the other one
-/// committed is lost.
+/// The processor of the second of two partitions is out of memory, once; the restart has new artifacts. Nothing that the other one committed is lost.
 const WANTING: &str = "> records=ab/c~d/
 [0, 1]
 Memory 6 1
@@ -35,8 +34,8 @@ fn a_round_is_gone_on_from(rt: HostRuntime) -> Result<(), Fail> {
     assert_told(&rt, rt.alloc(), WANTING)
 }
 
-/// The line of the row's run of this number, where the first one is stopped after so many rounds. The step is restarted on so many threads
-/// until it is over: in one run, or, after a stop before the first round, round by round.
+/// The line of the row's run of this number. The first run is stopped after so many rounds. The step is restarted on so many threads until
+/// it is over: in one run, or, after a stop before the first round, round by round.
 fn run_of(
     alloc: Global,
     row: &Worked,
@@ -54,7 +53,7 @@ fn run_of(
     }
 }
 
-/// Whether the row's step comes to the same where it is stopped after so many rounds and restarted on so many threads.
+/// Whether the row's step comes to the same if it is stopped after so many rounds and restarted on so many threads.
 fn is_unchanged<R: Threads + Wait + Sync>(
     way: Way,
     rt: &R,
@@ -78,7 +77,7 @@ fn is_unchanged<R: Threads + Wait + Sync>(
     Ok(is_completed && partitions.as_str() == row.partitions)
 }
 
-/// Whether it does so wherever it is stopped, on each number of threads.
+/// Whether it does so for each stop, on each number of threads.
 fn is_never_changed<R: Threads + Wait + Sync>(
     way: Way,
     rt: &R,

@@ -1,9 +1,9 @@
-//! A stop that is asked for in the middle of a round.
+//! A stop that a lane requests in the middle of a round.
 
 use crate::step::runs::assert_told;
 use std::test::*;
 
-/// Lane 1 asks as it begins in the first round: what the round committed stands, and the restart ends as the step that nothing stops.
+/// Lane 1 asks as it begins in the first round: what the round committed stays, and the restart ends as the step that nothing stops.
 const IN_A_ROUND: &str = "> records=abc/de/fg/ lane=1 round=0
 [0, 1, 2]
 Longest(0) 1 of 2
@@ -30,7 +30,7 @@ fn a_stop_in_a_round(rt: HostRuntime) -> Result<(), Fail> {
     assert_told(&rt, rt.alloc(), IN_A_ROUND)
 }
 
-/// In the last round, as lane 1 begins or as lane 0 is done, the step is completed, and no stop stands in its history.
+/// In the last round, as lane 1 begins or as lane 0 is done, the step is completed, and no stop is in its history.
 const IN_THE_LAST_ROUND: &str = "> records=abc/de/fg/ lane=1 round=1
 [0, 1, 2]
 Longest(0) 2 of 2

@@ -1,7 +1,7 @@
 //! The worked rows that several tests go by.
 
-/// A step, and what comes of it: the partitions that need artifacts, its plans, the analyzer's calls, the reducer's, and the status and
-/// the number of events; and what each partition comes to.
+/// A step, and what comes of it: the partitions that need artifacts, its plans, the analyzer's calls, the reducer's, and the status and the
+/// number of events. Also what each partition comes to.
 pub(crate) struct Worked {
     pub(crate) line: &'static str,
     pub(crate) course: &'static str,
@@ -14,8 +14,8 @@ pub(crate) const SEVEN: &str = "0 3 3 0 0 3 3 3 2 0 0 0 0 0 0 done xa xb xc
 5 7 7 5 0 2 2 2 1 0 0 0 0 0 0 done xf xg
 ";
 
-/// No fault; a retry that rolls a chunk back; a skip where it is done again in single records; and a call that is repeated in place before
-/// one that rolls the chunk back. Those of all faults stand in `cases/run`.
+/// No fault. A retry that rolls a chunk back. A skip while the chunk is done again in single records. A call that is repeated in place
+/// before one that rolls the chunk back. Those of all faults are in `cases/run`.
 pub(crate) const ROWS: [Worked; 4] = [
     Worked {
         line: "records=abc/de/fg/",

@@ -1,4 +1,4 @@
-//! Steps of which lines tell, and what comes of them.
+//! Steps that lines describe, and what comes of them.
 
 ghost use Rattle.std.specs.Prelude.{◌≡◌};
 ghost use Rattle.jb_base.specs.Limits.{max_parts};
@@ -26,8 +26,8 @@ use std::sync::ledger::{Blank, Ledger};
 use std::test::*;
 use std::thread::Threads;
 
-/// The words of the step, and behind ` on ` those of the step whose desk it is: the same where it is its own. In the history of such a desk a
-/// plan may stand, `planned`.
+/// The line's part for the step, and, after ` on `, that for the step whose desk it is: the same, if it is its own. The history of such a
+/// desk may have a plan (`planned`).
 fn halves(line: &str) -> (&str, &str) {
     match line.split_once(" on ") {
         Some(halves) => halves,
@@ -52,7 +52,7 @@ fn desk_of<L: Ledger>(
     }
 }
 
-/// What the step behind ` on ` begins with.
+/// What the step after ` on ` begins with.
 fn other_of(alloc: Global, line: &str) -> Result<Option<Prepared>, Fail> {
     let Some((_, line)) = line.split_once(" on ") else {
         return Ok(None);
@@ -103,7 +103,7 @@ pub(crate) fn run_at<L: Ledger + Send + Sync + 'static, R: Threads + Wait + Sync
     Ok(status)
 }
 
-/// The same; a plan may stand in the desk's history before, and a lane may ask for a stop.
+/// The same; the desk's history may have a plan before, and a lane may ask for a stop.
 fn run_on<L: Ledger + Send + Sync + 'static, R: Threads + Wait + Sync>(
     way: Way,
     rt: &R,
@@ -166,10 +166,11 @@ fn on_a_desk<L: Ledger + Send + Sync + 'static, R: Threads + Wait + Sync>(
 
 /// Runs the step of the line, and writes what comes of it. Answers its status, if it has an answer.
 ///
-/// `records` are those of `Given`. Of the step, its item count, `items`, and its rules; of its plan, its threads, and whether it has an
-/// `override`. `rounds` is the greatest number of rounds. It goes on from the rows that are `saved`, or, where it runs `again`, from what the
-/// run before left: with the artifacts that were handed back, or with `new` ones. What fails, and who asks for a stop, tell `Failing`,
-/// `Lacking` and `Stopping`; `analyzer` is the number of the analyzer's call that is answered with a fault, the first being 0.
+/// `records` are those of `Given`. The line has the step's item count, `items`, and its rules. It has the plan's threads, and whether the
+/// plan has an `override`. `rounds` is the greatest number of rounds. The run resumes from the rows that are `saved`, or, if it runs
+/// `again`, from what the run before left: with the artifacts that were handed back, or with `new` ones. `Failing`, `Lacking` and
+/// `Stopping` say what fails, and who asks for a stop. `analyzer` is the number of the analyzer's call that is answered with a fault, the
+/// first being 0.
 pub(crate) fn run_told<R: Threads + Wait + Sync>(
     way: Way,
     rt: &R,
@@ -196,7 +197,7 @@ pub(crate) fn run_told<R: Threads + Wait + Sync>(
     }
 }
 
-/// The lines that tell of a run, and what comes of each.
+/// The lines that describe a run, each followed by what comes of it.
 fn all_told<R: Threads + Wait + Sync>(
     way: Way,
     rt: &R,
@@ -217,7 +218,7 @@ fn all_told<R: Threads + Wait + Sync>(
     Ok(text)
 }
 
-/// Asserts that what stands behind each line that tells of a run is what comes of it, however its threads are had.
+/// Asserts that the text after each line that describes a run is what comes of the run, in both ways to have its threads.
 pub(crate) fn assert_told<R: Threads + Wait + Abort + Sync>(
     rt: &R,
     alloc: Global,

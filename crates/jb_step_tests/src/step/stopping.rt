@@ -4,7 +4,7 @@ use crate::lines::{has, number};
 use jb_workers::{Desk, Gate};
 use std::sync::ledger::Ledger;
 
-/// Asks for a stop where this lane comes by in this round, as it begins or as it is done. Without a lane or a round it never does.
+/// Asks for a stop when this lane comes by in this round, as it begins or as it is done. Without a lane or a round it never does.
 #[derive(Drop)]
 pub(crate) struct Stopping<'a, L: Ledger> {
     desk: &'a Desk<L>,

@@ -25,7 +25,7 @@ use std::thread;
 use std::thread::{Scope, Threads};
 use std::time::{Clock, Duration};
 
-/// Steps of seven records, those of `SEVEN`, and the number of commits from which on a stop is asked for.
+/// Steps of seven records, those of `SEVEN`, and the number of commits from which on a stop is requested.
 const LINES: &str = "records=abc/de/fg/ threads=1 commits=0
 records=abc/de/fg/ threads=1 commits=1
 records=abc/de/fg/ threads=1 commits=2
@@ -132,9 +132,8 @@ fn ask<L: Ledger, R: Wait>(rt: &R, desk: &Desk<L>, looks: &Looks, commits: u64) 
     }
 }
 
-/// Runs the step while one thread looks at its table and another asks for a stop: its end, and how often more commits were seen, if
-/// all was well with the table. The stop is asked for a first time before the step runs, so that a step with so many commits is
-/// stopped.
+/// Runs the step while one thread looks at its table and another asks for a stop. Answers its end, and how often more commits were seen, if
+/// all was well with the table. The first request for a stop is before the step runs, so that a step with so many commits is stopped.
 fn run_between<
     's,
     E,
@@ -179,7 +178,7 @@ fn run_between<
     (end, rises)
 }
 
-/// The same in a scope of its own, so that neither thread is left running.
+/// The same in its own scope, so that neither thread is left running.
 fn in_scope<L: Ledger + Send + Sync + 'static, R: Threads + Wait + Clock + Copy + Sync>(
     rt: &R,
     alloc: Global,
@@ -242,8 +241,8 @@ fn run_watched<L: Ledger + Send + Sync + 'static, R: Threads + Wait + Clock + Co
     )
 }
 
-/// Runs the step so, and goes on until it isn't stopped, each time with a stop from one commit more on. Its status, how often it was stopped
-/// before its last run, how often more commits were seen than before, and what its partitions come to.
+/// Runs the step so, and resumes it until it isn't stopped, each time with a stop from one commit more on. Answers its status, how often it
+/// was stopped before its last run, how often more commits were seen than before, and what its partitions come to.
 fn watched<R: Threads + Wait + Clock + Copy + Sync>(
     way: Way,
     rt: &R,
@@ -279,8 +278,8 @@ fn watched<R: Threads + Wait + Clock + Copy + Sync>(
     Ok((status, stops, rises, partitions))
 }
 
-/// However often it is stopped, the step comes to the same once it isn't. Each row is stopped at least once, before it runs or after a
-/// commit that was seen; in each of its two rounds a commit is seen, and on one thread each of its four.
+/// After any number of stops, the step comes to the same once it isn't stopped. Each row is stopped at least once, before it runs or after
+/// a commit that was seen. A commit is seen in each of its two rounds, and on one thread each of its four commits.
 #[test]
 fn a_table_is_watched(rt: HostRuntime) -> Result<(), Fail> {
     for line in LINES.lines() {

@@ -12,8 +12,8 @@ use std::sync::ledger::Ledger;
 use std::thread;
 use std::thread::{Scope, Threads};
 
-/// Runs the step in this way, for so many rounds at most; with none, to its end. As the other one here it has no contract, so that its
-/// callers have short proofs.
+/// Runs the step in this way, for so many rounds at most; with none, to its end. Like the other one here it has no contract, so its callers
+/// have short proofs.
 pub(crate) fn run_in<
     'a,
     T: PartitionTask + Send + 'static,
@@ -53,7 +53,7 @@ pub(crate) fn run_in<
     }
 }
 
-/// Runs it over a pool. Without memory for a pool it goes on without one.
+/// Runs it over a pool. Without memory for a pool, it runs without one.
 fn over_pool<
     's,
     E,

@@ -1,7 +1,7 @@
 //! What a round answers, and what is left of it in the table.
 
 ghost use Rattle.std.specs.Prelude.{◌≡◌, IfSome};
-ghost use Rattle.jb_chunk.specs.Standing.{IsReady};
+ghost use Rattle.jb_chunk.specs.TaskState.{IsReady};
 ghost use Rattle.jb_workers.specs.Works.{AllCanBegin};
 ghost use Rattle.jb_base.specs.Limits.{max_parts};
 
@@ -31,14 +31,20 @@ use std::thread::Threads;
 
 /// Rounds of two partitions of two letters each, in chunks of two, and what comes of them.
 ///
-/// A line tells the lane of partition 0, and that of partition 1 where it takes part (`other`), whose task is sound. Of the task of
-/// partition 0: its item count, its rollbacks and its repeats in place; whether each call of its processor for record 1 fails with class 0
-/// (`bad`), and the sets of classes that are retried, once, and of those that are repeated in place; whether its processor finds no memory
-/// (`wanting`). A desk has a plan of one round, unless the round isn't planned. Where both want one lane, either may get it. `alone` is
-/// the work of partition 0 with no round about it.
+/// A line has the lane of partition 0, and that of partition 1 if it takes part (`other`). The task of partition 1 is sound. The line says
+/// of the task of partition 0:
+/// - its item count, its rollbacks and its repeats in place;
+/// - whether each call of its processor for record 1 fails with class 0 (`bad`);
+/// - the sets of classes that are retried, once, and of those that are repeated in place;
+/// - whether its processor is out of memory (`wanting`).
 ///
-/// Behind it stand the outcomes with their rows, or why there is none; who came by the gate on both ways, and how many of them before
-/// their chunk was begun, before it was ended, or in another round than the first; how often a processor was called; and the table.
+/// A desk has a plan of one round, unless the round isn't planned. If both want one lane, either may get it. `alone` is the work of
+/// partition 0 with no round about it.
+///
+/// The answer follows:
+/// - The outcomes with their rows, or the error.
+/// - How many came by the gate on both ways, and how many of them came before their chunk began, before it ended, or in another round than the first.
+/// - How often a processor was called, and the table.
 const ROUNDS: &str = "> lane=0 other=1
 Committed(Counts { read: 2, write: 2, commit: 1, rollback: 0, read_skip: 0, process_skip: 0, filter: 0, write_skip: 0 })
 0 2 2 0 0 2 2 2 1 0 0 0 0 0 0 done
@@ -208,7 +214,7 @@ impl<'a, L: Ledger, R: Wait> Counter<'a, L, R> {
         }
     }
 
-    /// Whether the lane has a chunk now, where there is memory for the table.
+    /// Whether the lane has a chunk now, if there is memory for the table.
     fn is_running(&self, lane: u32) -> Option<bool> {
         let table = self.desk.status(self.rt).ok()?;
         for row in &table.rows {
@@ -246,7 +252,7 @@ impl<L: Ledger + Send + Sync, R: Wait + Sync> Gate for Counter<'_, L, R> {
     }
 }
 
-/// The artifacts of a partition, of which a line tells the faults.
+/// The artifacts of a partition, with the faults that a line gives.
 fn artifacts(
     alloc: Global,
     line: &str,
@@ -284,9 +290,9 @@ fn first_row(line: &str) -> Row {
     }
 }
 
-/// The task of partition 0, where it is ready.
+/// The task of partition 0, if it is ready.
 fn first_task<T: PartitionTask>(line: &str, artifacts: T::Artifacts) -> Option<T>
-    ensures ready { IfSome result (λ task. IsReady (T.standing task)) }
+    ensures ready { IfSome result (λ task. IsReady (T.task_state task)) }
 {
     let rules = Rules {
         retryable: number(line, "retryable").unwrap_or(0),
@@ -298,14 +304,14 @@ fn first_task<T: PartitionTask>(line: &str, artifacts: T::Artifacts) -> Option<T
     task_of::<T>(0, first_row(line), rules, item_count, artifacts)
 }
 
-/// The works of the line's round, where each task is ready.
+/// The works of the line's round, if each task is ready.
 fn works_of<T: PartitionTask>(
     alloc: Global,
     line: &str,
     first: T::Artifacts,
     other: T::Artifacts,
 ) -> Option<Vec<Work<T>>>
-    ensures { IfSome result (λ works. AllCanBegin T.standing works.items) }
+    ensures { IfSome result (λ works. AllCanBegin T.task_state works.items) }
 {
     let [_, row] = fresh_rows();
     let first = first_task::<T>(line, first)?;
@@ -402,7 +408,7 @@ fn run_round<
     works: Vec<Work<T>>,
     text: &mut String,
 ) -> Result<(), AllocError>
-    requires { AllCanBegin T.standing works.items }
+    requires { AllCanBegin T.task_state works.items }
 {
     match run_round_in(way, gate.desk, gate.rt, alloc, gate, works) {
         Ok(dones) => {
@@ -423,7 +429,7 @@ fn run_alone<L: Ledger + Send + Sync + 'static, T: PartitionTask, R: Wait + Sync
     task: T,
     text: &mut String,
 ) -> Result<(), Fail>
-    requires ready { IsReady (T.standing task) }
+    requires ready { IsReady (T.task_state task) }
 {
     if !task.row().state.is_waiting() {
         return Err(Fail::from("a task"));
@@ -438,7 +444,7 @@ fn run_alone<L: Ledger + Send + Sync + 'static, T: PartitionTask, R: Wait + Sync
     Ok(())
 }
 
-/// Runs what the line tells on this desk, and writes its answer and who came by.
+/// Runs the line's round on this desk, and writes its answer and who came by.
 fn run_on<
     L: Ledger + Send + Sync + 'static,
     T: PartitionTask + Send + 'static,
@@ -465,7 +471,7 @@ fn run_on<
     Ok(())
 }
 
-/// Runs what the line tells on a new desk, and writes what comes of it.
+/// Runs the line's round on a new desk, and writes what comes of it.
 fn run_told<L: Ledger + Send + Sync + 'static, R: Threads + Wait + Sync>(
     way: Way,
     rt: &R,
@@ -490,7 +496,7 @@ fn run_told<L: Ledger + Send + Sync + 'static, R: Threads + Wait + Sync>(
     Ok(())
 }
 
-/// The lines that tell of a round, and what comes of each.
+/// The lines that describe a round, each followed by what comes of it.
 fn all_told<R: Threads + Wait + Sync>(
     way: Way,
     rt: &R,

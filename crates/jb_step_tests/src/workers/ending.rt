@@ -20,10 +20,10 @@ use std::thread;
 use std::thread::{Scope, Threads};
 use std::time::Clock;
 
-/// How many workers the pool is asked for: as many as a step can keep at work.
+/// How many workers the pool should have: as many as a step can keep at work.
 const WORKERS: usize = 63;
 
-/// Starts the pool, does the works of a round over it, and ends it: the workers that waited for a work before and behind the round.
+/// Starts the pool, does the works of a round over it, and ends it: the workers that waited for a work before and after the round.
 fn ended<
     's,
     E,
@@ -37,7 +37,7 @@ fn ended<
     desk: &'s Desk<L>,
     works: Vec<Work<T>>,
 ) -> Option<(usize, usize)>
-    requires ready { AllCanBegin T.standing works.items }
+    requires ready { AllCanBegin T.task_state works.items }
 {
     let mut pool = start_pool(&*scope, &*desk, &*rt, alloc, &NoGate, WORKERS).ok()?;
     let before = pool.workers();
@@ -68,7 +68,7 @@ fn ended_in_time<
     is_over: &'s AtomicBool,
     works: Vec<Work<T>>,
 ) -> Option<(usize, usize)>
-    requires ready { AllCanBegin T.standing works.items }
+    requires ready { AllCanBegin T.task_state works.items }
 {
     let watcher = scope.spawn(move || watch(&*rt, &*is_over)).ok()?;
     let workers = ended(scope, rt, alloc, desk, works);
@@ -77,25 +77,25 @@ fn ended_in_time<
     workers
 }
 
-/// The same in a scope of its own.
+/// The same in its own scope.
 fn in_scope<
     L: Ledger + Send + Sync + 'static,
     T: PartitionTask + Send + 'static,
     R: Threads + Wait + Clock + Abort + Sync,
 >(rt: &R, alloc: Global, desk: &Desk<L>, works: Vec<Work<T>>) -> Option<(usize, usize)>
-    requires ready { AllCanBegin T.standing works.items }
+    requires ready { AllCanBegin T.task_state works.items }
 {
     let is_over = AtomicBool::new(false);
     thread::scope(
         thread::scope_env(),
         rt,
         |scope| -> Option<(usize, usize)>
-            requires { AllCanBegin T.standing works.items }
+            requires { AllCanBegin T.task_state works.items }
         { ended_in_time(scope, rt, alloc, desk, &is_over, works) },
     )
 }
 
-/// The same on a desk of its own.
+/// The same on its own desk.
 fn on_a_desk<
     L: Ledger + Send + Sync + 'static,
     T: PartitionTask + Send + 'static,
@@ -104,13 +104,13 @@ fn on_a_desk<
     requires name { blank.name ≡ L.name }
     requires parts { blank.parts ≡ L.parts }
     requires all { blank.parts ≡ max_parts }
-    requires ready { AllCanBegin T.standing works.items }
+    requires ready { AllCanBegin T.task_state works.items }
 {
     let desk = planned_desk::<L>(rt, alloc, blank, MAX_PARTS)?;
     in_scope(rt, alloc, &desk, works)
 }
 
-/// All workers wait for a work before the round and behind it, and end with the pool: those that had a work, and those that had none.
+/// All workers wait for a work before the round and after it, and end with the pool: those that had a work, and those that had none.
 #[test]
 fn workers_end_with_their_pool(rt: HostRuntime) -> Result<(), Fail> {
     let alloc = rt.alloc();

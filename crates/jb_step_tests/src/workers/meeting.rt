@@ -1,4 +1,4 @@
-//! Two lanes that wait for each other: they run at once, and each commit stands in the table before the round is over.
+//! Two lanes that wait for each other: they run at once, and each commit is in the table before the round is over.
 
 ghost use Rattle.std.specs.Prelude.{◌≡◌, ◌<◌, IfSome};
 ghost use Rattle.jb_workers.specs.Works.{AllCanBegin};
@@ -110,7 +110,7 @@ fn two_works<T: PartitionTask>(
     later: T::Artifacts,
     earlier: T::Artifacts,
 ) -> Option<Vec<Work<T>>>
-    ensures { IfSome result (λ works. AllCanBegin T.standing works.items) }
+    ensures { IfSome result (λ works. AllCanBegin T.task_state works.items) }
 {
     let [row, later_row] = fresh_rows();
     let later = task_of::<T>(1, later_row, RULES, 2, later)?;
@@ -129,7 +129,7 @@ fn are_in<T: PartitionTask>(dones: &[Done<T>], after: &Snapshot) -> bool {
         && after.rows[1] == *dones[1].task.row()
 }
 
-/// Whether a desk of which no stop was asked takes a request for one, and then a Stop.
+/// Whether a desk without a request for a stop takes one, and then a Stop.
 fn takes_a_stop<L: Ledger>(rt: &impl Wait, desk: &Desk<L>) -> bool {
     let before = desk.is_stopping();
     desk.request_stop();
@@ -144,7 +144,7 @@ fn runs<
     T: PartitionTask + Send + 'static,
     R: Threads + Wait + Clock + Send + Sync,
 >(way: Way, rt: &R, alloc: Global, gate: &Meeting<L, R>, works: Vec<Work<T>>) -> Option<Snapshot>
-    requires ready { AllCanBegin T.standing works.items }
+    requires ready { AllCanBegin T.task_state works.items }
 {
     let desk = &*gate.desk;
     desk.apply(rt, Event::Plan(1, Certificate::FullLoad)).ok()?;
@@ -164,8 +164,9 @@ fn text_of(alloc: Global, seen: &[u64; 3], after: &Snapshot) -> Result<String, A
     format!(in alloc; "{alone} {first} {second}; {events} {plans} {commits} {stopping}")
 }
 
-/// The tasks of partitions 1 and 0, handed over in this order, meet in one round: how often a lane waited in vain, and the Commits that lane 0
-/// saw; and of the table after the round the events, the plans, the Commits, and whether a stop was asked for. After it the desk takes a stop.
+/// The tasks of partitions 1 and 0, handed over in this order, meet in one round. Answers how often a lane waited in vain, and the Commits
+/// that lane 0 saw. Of the table after the round it answers the events, the plans, the Commits, and whether a stop was requested. After it
+/// the desk takes a stop.
 fn meet<
     L: Ledger + Send + Sync + 'static,
     T: PartitionTask + Send + 'static,

@@ -1,7 +1,7 @@
-//! Want of memory in a round.
+//! A round that is out of memory.
 
 ghost use Rattle.std.specs.Prelude.{◌≡◌, IfSome};
-ghost use Rattle.jb_chunk.specs.Standing.{IsReady};
+ghost use Rattle.jb_chunk.specs.TaskState.{IsReady};
 ghost use Rattle.jb_workers.specs.Works.{AllCanBegin};
 ghost use Rattle.jb_base.specs.Limits.{max_parts};
 
@@ -41,14 +41,14 @@ fn artifacts(alloc: Global) -> Result<LettersArtifacts, AllocError> {
 
 /// The task of partition 0 or 1.
 fn own_task(alloc: Global, partition: u32) -> Option<LettersTask>
-    ensures { IfSome result (λ task. IsReady (⟦<LettersTask as PartitionTask>⟧.standing task)) }
+    ensures { IfSome result (λ task. IsReady (⟦<LettersTask as PartitionTask>⟧.task_state task)) }
 {
     let [first, second] = fresh_rows();
     let row = if partition == 0 { first } else { second };
     task_of::<LettersTask>(partition, row, RULES, 2, artifacts(alloc).ok()?)
 }
 
-/// Whether a round can end so for want of memory.
+/// Whether a round can end so when it is out of memory.
 fn is_want(error: RoundError) -> bool {
     matches!(
         error,
@@ -83,16 +83,16 @@ fn is_sound(after: &Snapshot) -> bool {
 
 /// The works of both tasks.
 fn both<T: PartitionTask>(alloc: Global, task: T, other: T) -> Option<Vec<Work<T>>>
-    requires ready { IsReady (T.standing task) }
-    requires other_ready { IsReady (T.standing other) }
-    ensures { IfSome result (λ works. AllCanBegin T.standing works.items) }
+    requires ready { IsReady (T.task_state task) }
+    requires other_ready { IsReady (T.task_state other) }
+    ensures { IfSome result (λ works. AllCanBegin T.task_state works.items) }
 {
     let works = with_work(Vec::new(alloc), 0, task)?;
     with_work(works, 1, other)
 }
 
-/// A round of both tasks, of which each request for memory may be refused: whether after it no lane runs, each commit of the table is a
-/// whole chunk, and the round is entered exactly where it has an answer. `None` where a request of the test's own was refused.
+/// A round of both tasks, of which each request for memory may be refused. Answers whether after it no lane runs, each commit of the table
+/// is a whole chunk, and the round is entered exactly if it has an answer. `None` if a request of the test itself was refused.
 fn run_short<
     L: Ledger + Send + Sync + 'static,
     T: PartitionTask + Send + 'static,
@@ -101,8 +101,8 @@ fn run_short<
     requires name { blank.name ≡ L.name }
     requires parts { blank.parts ≡ L.parts }
     requires all { blank.parts ≡ max_parts }
-    requires ready { IsReady (T.standing task) }
-    requires other_ready { IsReady (T.standing other) }
+    requires ready { IsReady (T.task_state task) }
+    requires other_ready { IsReady (T.task_state other) }
 {
     let desk = Desk::<L>::new(repository(alloc, &fresh_rows())?, blank);
     let works = both(alloc, task, other)?;

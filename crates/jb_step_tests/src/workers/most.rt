@@ -1,7 +1,7 @@
 //! A round on as many lanes as a desk has, of as many partitions as it has.
 
 ghost use Rattle.std.specs.Prelude.{◌≡◌, [], IfSome, Option};
-ghost use Rattle.jb_chunk.specs.Standing.{IsReady};
+ghost use Rattle.jb_chunk.specs.TaskState.{IsReady};
 ghost use Rattle.jb_workers.specs.Works.{AllCanBegin};
 ghost use Rattle.jb_base.specs.Limits.{max_parts};
 
@@ -52,7 +52,7 @@ fn own_artifacts(alloc: Global, partition: u32) -> Result<OneRecord, AllocError>
 
 /// The task of the partition, over its own artifacts.
 pub(crate) fn own_task(alloc: Global, partition: u32) -> Option<OneRecordTask>
-    ensures { IfSome result (λ task. IsReady (⟦<OneRecordTask as PartitionTask>⟧.standing task)) }
+    ensures { IfSome result (λ task. IsReady (⟦<OneRecordTask as PartitionTask>⟧.task_state task)) }
 {
     let artifacts = own_artifacts(alloc, partition).ok()?;
     task_of::<OneRecordTask>(partition, own_row(partition), RULES, 1, artifacts)
@@ -65,8 +65,8 @@ pub(crate) fn works<T: PartitionTask, F: Fn(u32) -> Option<T>>(
     make: F,
 ) -> Option<Vec<Work<T>>>
     requires callable { F.IsAlwaysCallable make }
-    requires ready { (lane : _) (one : Option T) → F.post make lane one → IfSome one (λ task. IsReady (T.standing task)) }
-    ensures { IfSome result (λ works. AllCanBegin T.standing works.items) }
+    requires ready { (lane : _) (one : Option T) → F.post make lane one → IfSome one (λ task. IsReady (T.task_state task)) }
+    ensures { IfSome result (λ works. AllCanBegin T.task_state works.items) }
 {
     let mut works = Vec::new(alloc);
     for lane in 0..lanes {
@@ -106,8 +106,7 @@ pub(crate) fn planned_desk<L: Ledger>(
     Some(desk)
 }
 
-/// What comes of a round of these works: the Dones and those that are Committed; and of the table after it the events, the rows and the
-/// Commits.
+/// What comes of a round of these works: the Dones and those that are Committed. Of the table after it: the events, the rows and the Commits.
 fn run<
     L: Ledger + Send + Sync + 'static,
     T: PartitionTask + Send + 'static,
@@ -116,7 +115,7 @@ fn run<
     requires name { blank.name ≡ L.name }
     requires parts { blank.parts ≡ L.parts }
     requires all { blank.parts ≡ max_parts }
-    requires ready { AllCanBegin T.standing works.items }
+    requires ready { AllCanBegin T.task_state works.items }
 {
     let desk = planned_desk::<L>(rt, alloc, blank, MAX_PARTS)?;
     let dones = run_round_in(way, &desk, rt, alloc, &NoGate, works).ok()?;

@@ -1,7 +1,7 @@
 //! A ledger of few parts: each part that a worker held comes back.
 
 ghost use Rattle.std.specs.Prelude.{◌≡◌};
-ghost use Rattle.jb_chunk.specs.Standing.{IsReady};
+ghost use Rattle.jb_chunk.specs.TaskState.{IsReady};
 
 use crate::lines::{add_line, assert_text, has, number};
 use crate::way::{BOTH_WAYS, Way};
@@ -16,8 +16,8 @@ use std::sync::ledger::{Blank, Ledger};
 use std::test::*;
 use std::thread::Threads;
 
-/// Three rounds on a desk whose ledger has so many parts, and what comes of each: how many attempts it gave, or why none, and how many parts
-/// are left after it.
+/// Three rounds on a desk whose ledger has so many parts, and what comes of each: how many attempts it gave, or the error, and how many
+/// parts are left after it.
 ///
 /// A round has two works, or one that is done without a pool (`one`). In one of the two ways its pool has a worker for each work, and the
 /// caller's thread needs a part too: three parts are enough in both ways.
@@ -55,7 +55,7 @@ fn run_one<L: Ledger, T: PartitionTask>(
     desk: &Desk<L>,
     task: T,
 ) -> Option<Result<usize, RoundError>>
-    requires { IsReady (T.standing task) }
+    requires { IsReady (T.task_state task) }
 {
     if !task.row().state.is_waiting() {
         return None;
@@ -110,7 +110,7 @@ fn run_told<L: Ledger + Send + Sync + 'static, R: Threads + Wait + Sync>(
     Ok(())
 }
 
-/// The lines that tell of rounds, and what comes of each.
+/// The lines that describe rounds, each followed by what comes of it.
 fn all_told<R: Threads + Wait + Sync>(
     way: Way,
     rt: &R,

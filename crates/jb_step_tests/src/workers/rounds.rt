@@ -25,7 +25,7 @@ pub(crate) fn run_round_in<
     gate: &G,
     works: Vec<Work<T>>,
 ) -> Result<Vec<Done<T>>, RoundError>
-    requires { AllCanBegin T.standing works.items }
+    requires { AllCanBegin T.task_state works.items }
 {
     match way {
         Way::NewThreads => desk.run_round(rt, alloc, gate, works),
@@ -33,7 +33,7 @@ pub(crate) fn run_round_in<
             thread::scope_env(),
             rt,
             |scope| -> Result<Vec<Done<T>>, RoundError>
-                requires { AllCanBegin T.standing works.items }
+                requires { AllCanBegin T.task_state works.items }
             { over_pool(scope, desk, rt, alloc, gate, works) },
         ),
     }
@@ -55,7 +55,7 @@ fn over_pool<
     gate: &'s G,
     works: Vec<Work<T>>,
 ) -> Result<Vec<Done<T>>, RoundError>
-    requires { AllCanBegin T.standing works.items }
+    requires { AllCanBegin T.task_state works.items }
 {
     let mut pool = start_pool(&*scope, &*desk, &*rt, alloc, &*gate, works.len())?;
     let dones = desk.run_round_by(&*rt, alloc, &*gate, &mut pool, works);

@@ -32,7 +32,7 @@ fn started<'s, E, L: Ledger + Send + Sync + 's, R: Threads + Wait + Sync + 's>(
     Ok(workers)
 }
 
-/// The same in a scope of its own.
+/// The same in its own scope.
 fn in_scope<L: Ledger + Send + Sync + 'static, R: Threads + Wait + Sync>(
     rt: &R,
     alloc: Global,
@@ -45,7 +45,7 @@ fn in_scope<L: Ledger + Send + Sync + 'static, R: Threads + Wait + Sync>(
     )
 }
 
-/// Whether this answer is right where so many parts are left. A pool lacks workers only if a thread couldn't be made, and that thread's part
+/// Whether this answer is right if so many parts are left. A pool lacks workers only if a thread couldn't be made, and that thread's part
 /// is lost. If no part is lost, the pool was out of memory, and the answer has to be Memory.
 fn is_well(workers: Result<usize, RoundError>, left: u64) -> bool {
     match workers {
@@ -54,7 +54,7 @@ fn is_well(workers: Result<usize, RoundError>, left: u64) -> bool {
     }
 }
 
-/// Whether the answer is right on a new desk; `None` if a request of the test's own was refused.
+/// Whether the answer is right on a new desk; `None` if a request of the test itself was refused.
 fn start_short<L: Ledger + Send + Sync + 'static, R: Threads + Wait + Sync>(
     rt: &R,
     alloc: Global,

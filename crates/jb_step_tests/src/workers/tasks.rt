@@ -2,7 +2,7 @@
 
 ghost use Rattle.std.specs.Prelude.{◌≡◌, [], IfSome};
 ghost use Rattle.jb_rules.specs.declared.row.RowState.TheVariants.{Waiting};
-ghost use Rattle.jb_chunk.specs.Standing.{IsReady};
+ghost use Rattle.jb_chunk.specs.TaskState.{IsReady};
 ghost use Rattle.jb_workers.specs.Works.{AllCanBegin};
 
 use jb_artifacts::{
@@ -32,7 +32,7 @@ pub(crate) fn fresh_rows() -> [Row; 2] {
     ]
 }
 
-/// A repository of these rows for two threads and chunks of two letters, where there is memory.
+/// A repository of these rows for two threads and chunks of two letters, if there is memory.
 pub(crate) fn repository(alloc: Global, rows: &[Row]) -> Option<Repo>
     ensures { IfSome result (λ repo. repo.past ≡ []) }
 {
@@ -53,7 +53,7 @@ pub(crate) fn letters(alloc: Global) -> Result<TableReader, AllocError> {
     Ok(TableReader::new(alloc, 0, records, FaultPlans::new(alloc)))
 }
 
-/// A processor that puts an x before each item, or finds no memory at any.
+/// A processor that puts an x before each item, or is out of memory at each.
 #[derive(Drop)]
 pub(crate) struct Processor {
     prefix: PrefixProcessor,
@@ -88,7 +88,7 @@ pub(crate) fn writer(alloc: Global) -> ListWriter {
     ListWriter::new(PackedList::new(alloc), FaultPlans::new(alloc))
 }
 
-/// The artifacts of a partition, each in a box of its own. A test hands them on as objects.
+/// The artifacts of a partition, each in its own box. A test hands them on as objects.
 #[derive(Drop)]
 pub(crate) struct Boxed {
     pub(crate) reader: Box<TableReader>,
@@ -111,7 +111,7 @@ pub(crate) fn boxes(alloc: Global) -> Result<Boxed, AllocError> {
     })
 }
 
-/// The task of this row, where the row is sound and waits, and the artifacts serve it.
+/// The task of this row, if the row is sound and waits, and the artifacts serve it.
 pub(crate) fn task_of<T: PartitionTask>(
     partition: u32,
     row: Row,
@@ -119,8 +119,8 @@ pub(crate) fn task_of<T: PartitionTask>(
     item_count: u64,
     artifacts: T::Artifacts,
 ) -> Option<T>
-    ensures ready { IfSome result (λ task. IsReady (T.standing task)) }
-    ensures row { IfSome result (λ task. (T.standing task).row ≡ row) }
+    ensures ready { IfSome result (λ task. IsReady (T.task_state task)) }
+    ensures row { IfSome result (λ task. (T.task_state task).row ≡ row) }
     ensures waiting { IfSome result (λ task. row.state ≡ Waiting) }
 {
     if row.sound()
@@ -135,15 +135,15 @@ pub(crate) fn task_of<T: PartitionTask>(
     }
 }
 
-/// The works with one more, where its row waits and there is memory.
+/// The works with one more, if its row waits and there is memory.
 pub(crate) fn with_work<T: PartitionTask>(
     works: Vec<Work<T>>,
     lane: u32,
     task: T,
 ) -> Option<Vec<Work<T>>>
-    requires ready { IsReady (T.standing task) }
-    requires all { AllCanBegin T.standing works.items }
-    ensures { IfSome result (λ more. AllCanBegin T.standing more.items) }
+    requires ready { IsReady (T.task_state task) }
+    requires all { AllCanBegin T.task_state works.items }
+    ensures { IfSome result (λ more. AllCanBegin T.task_state more.items) }
 {
     if task.row().state != RowState::Waiting {
         return None;

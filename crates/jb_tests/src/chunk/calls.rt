@@ -6,10 +6,10 @@ use super::rows::many_records;
 use std::alloc::{AllocError, Global};
 use std::test::*;
 
-/// A chunk with a filtered item, one in which a read is skipped after it had found no memory, a retry by single records, a chunk of
-/// filtered items, a skipped write call, and a retried one. Then partitions of which a read is skipped, or repeated in place, once, in an
-/// attempt that finds no memory: the next one doesn't meet the fault. Then partitions that fail in processing, in writing, and after as
-/// many repeats as the retry limit allows.
+/// Chunks: one with a filtered item, one in which a read is skipped after it had found no memory, and a retry by single records. Then a
+/// chunk of filtered items, a skipped write call, and a retried one. Then partitions of which a read is skipped, or repeated in place,
+/// once, in an attempt that finds no memory: the next one doesn't meet the fault. Then partitions that fail in processing, in writing, and
+/// after as many repeats as the retry limit allows.
 const ROWS: &str = "a,zb,c/rS,d/m,e,f/pt,zg,zh,i,j/wS,k/wt,l,m
 a,b,c/rs,d/m
 a,b,c/ri,d/m
@@ -56,8 +56,8 @@ a,b,c/pi,d
 a,b,c,d/wi
 a,b,c/ri/wi,d/pi";
 
-/// A call that is repeated in place is made once more, with the same record, item or list; before a read the reader is opened at the
-/// record, before a write the writer behind the committed results. No other call is made again, and the collector isn't told.
+/// A call that is repeated in place is made once more, with the same record, item or list. Before a read the reader is opened at the
+/// record, and before a write the writer after the committed results. No other call is made again, and the collector isn't called.
 const REPEATED_STORIES: &str = "committed 2 2 1 1 at 2, 2 written
 committed 3 2 1 2 at 4, 4 written
 [0, 4, 4, 0, 1, 4, 4, 4, 2, 0, 0, 0, 0, 0, 1] xa xb xc xd
@@ -93,8 +93,8 @@ fn calls_of_each_attempt(rt: HostRuntime) -> Result<(), Fail> {
     Ok(())
 }
 
-/// Rows of five records, the second of which is filtered, with a fault of this class of the read of record 2, of the processing of record
-/// 3, of the write of record 4, of none of these and of all.
+/// Rows of five records, the second of which is filtered. The first has no fault. The next three have one of this class: in the read of
+/// record 2, in the processing of record 3, or in the write of record 4. The last has all three.
 fn fives(alloc: Global, class: char) -> Result<String, AllocError> {
     format!(in alloc;
         "a,zebra,,a longer one,b

@@ -52,7 +52,7 @@ impl Calls {
     }
 
     /// A line of an attempt that ended so and left this row: the calls in it, of reader, processor, writer and collector, and
-    /// where the row stands.
+    /// the place of the row.
     pub(super) fn line(&self, alloc: Global, end: &str, row: &Row) -> Result<String, AllocError> {
         let reads = taken(&self.reads);
         let processes = taken(&self.processes);
@@ -66,8 +66,8 @@ impl Calls {
     }
 }
 
-/// Calls that were made: of a reader or a writer `o`, opened at this place, `r`, to read the record of this number, and `w`, to write so
-/// many results; of a processor the letter with which the item begins, and the number of its record.
+/// Calls that were made. Of a reader or a writer: `o`, opened at this place; `r`, to read the record of this number; and `w`, to write so
+/// many results. Of a processor: the letter with which the item begins, and the number of its record.
 pub(super) type Noted = Vec<(char, u64)>;
 
 /// Notes a call, where there is memory.

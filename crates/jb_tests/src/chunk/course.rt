@@ -1,4 +1,4 @@
-//! The attempts at what a row tells, by artifacts that count and note their calls: as they are, in boxes, and where they lend and pack.
+//! The attempts at what a row says, by artifacts that count and note their calls: as they are, in boxes, and where they lend and pack.
 
 ghost use Rattle.std.specs.Prelude.{◌≡◌, ◌+◌, ◌≤◌, ◌<◌, true};
 ghost use Rattle.jb_rules.specs.declared.row.RowState.TheVariants.{Waiting};
@@ -57,7 +57,7 @@ fn name_of(outcome: &Outcome) -> &'static str {
 #[derive(Drop)]
 struct Course {
     calls: AllCalls,
-    /// A line for each: how it ended, the calls in it, and where the row stands. At last the row's numbers.
+    /// A line for each: how it ended, the calls in it, and the place of the row. At last the row's numbers.
     lines: String,
     /// What each answered: its outcome, the row, how often calls were repeated in place, and the collector's texts.
     answers: Vec<u8>,
@@ -172,7 +172,7 @@ fn handles_of(calls: &AllCalls) -> Result<Handles, AllocError> {
     Ok((of_reader, of_processor, of_writer, of_collector))
 }
 
-/// Artifacts over what a row tells, which tell of their calls.
+/// Artifacts over what a row says, which note their calls.
 fn counting(alloc: Global, told: (ReadyArtifacts, Option<u64>), handles: Handles) -> Counting {
     let (ready, forgets) = told;
     let (of_reader, of_processor, of_writer, of_collector) = handles;
@@ -233,7 +233,7 @@ fn lent(alloc: Global, row: &str, item_count: u64) -> Result<Course, Fail> {
     Ok(course)
 }
 
-/// The same where each stands in a box: a call of a box is one call of what it holds.
+/// The same where each is in a box: a call of a box is one call of what it holds.
 fn boxed(alloc: Global, row: &str, item_count: u64) -> Result<Course, Fail> {
     let mut course = Course::new(alloc)?;
     let handles = handles_of(&course.calls)?;
@@ -261,8 +261,8 @@ fn story_of(alloc: Global, row: &str, item_count: u64, has_calls: bool) -> Resul
     Ok(story)
 }
 
-/// What comes of each of these rows, in chunks of so many, by all three kinds of artifacts: the attempts, the row's numbers and the
-/// outputs, and the calls of reader, processor and writer where they are asked for.
+/// What comes of each of these rows, in chunks of so many, by all three kinds of artifacts. It gives the attempts, the row's numbers and
+/// the outputs, and the calls of reader, processor and writer if they are asked for.
 pub(super) fn stories_of(
     alloc: Global,
     rows: &str,

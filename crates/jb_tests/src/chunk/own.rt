@@ -66,7 +66,7 @@ impl ItemProcessor for Doubler {
     }
 }
 
-/// A writer that keeps its results in a list of its own.
+/// A writer that holds its results in a list.
 #[derive(Drop)]
 struct Journal {
     alloc: Global,
@@ -130,7 +130,7 @@ impl Collector for Word {
 struct Ran {
     row: Row,
     end: AloneEnd,
-    /// The outputs, each with a blank behind it.
+    /// The outputs, each with a blank after it.
     outputs: Vec<u8>,
 }
 

@@ -54,7 +54,7 @@ fn finishes_or_wants_memory(rt: HostRuntime) -> Result<(), Fail> {
     Ok(())
 }
 
-/// 100,000 records, with this behind the last.
+/// 100,000 records, with this after the last.
 pub(super) fn many_records(alloc: Global, end: &str) -> Result<String, AllocError> {
     let mut row = String::new(alloc);
     for _ in 0..99_999 {

@@ -1,4 +1,4 @@
-//! Partitions told as a row of text: the records with commas between them, and behind each, after a stroke, what goes wrong at it.
+//! Partitions given as a row of text: the records with commas between them, and after each, after a stroke, what goes wrong at it.
 //!
 //! `m`: the processor finds no memory for it once. `r`, `p` or `w`, a fault in reading, processing or writing it, and the letter of its
 //! class: `s` is skipped, `t` retried, `i` repeated in place, and `f` fails the partition. A capital fails each call, and a small letter the
@@ -22,7 +22,7 @@ pub(super) type ReadyArtifacts = ArtifactsOf<
     CountCollector,
 >;
 
-/// What a row tells.
+/// What a row says.
 #[derive(Drop)]
 struct Told {
     records: PackedList,
@@ -87,7 +87,7 @@ fn told_by(alloc: Global, row: &str) -> Result<Told, Fail> {
     Ok(told)
 }
 
-/// Artifacts over what a row tells, and the record at which the processor is to find no memory. The processor puts an x before each record
+/// Artifacts over what a row says, and the record at which the processor is to find no memory. The processor puts an x before each record
 /// and filters those that begin with z.
 pub(super) fn artifacts_of(
     alloc: Global,

@@ -1,4 +1,4 @@
--- What stands in a report before the list of its steps.
+-- What a report has before the list of its steps.
 use Rattle.std.specs.Prelude.{ℕ, List, [], ◌∷◌, ◌++◌, codes}
 use Rattle.json.specs.Print.{quoted}
 use Rattle.jb_collect.specs.declared.calls.Status.{Status}

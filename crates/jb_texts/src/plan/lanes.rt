@@ -1,4 +1,4 @@
-//! What the lanes have in a round, written into a line from its end on: the last lane first, and each before the one behind it.
+//! What the lanes have in a round, written into a line from its end: the last lane first, and each other lane in front of the next one.
 
 ghost use Rattle.std.specs.Prelude.{◌≡◌, ◌+◌, ◌*◌, ◌≤◌, ◌<◌, ◌++◌, ◌∷◌, decimal, drop, length};
 ghost use Rattle.jb_base.specs.Limits.{max_threads};

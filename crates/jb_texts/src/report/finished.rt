@@ -25,14 +25,14 @@ use std::marker::Model;
 /// A text with more bytes isn't put into a block.
 const SHORT_TEXT: usize = 1_024;
 
-/// The text of a report, which contracts see as its bytes. The results stand in it as the writers held them.
+/// The text of a report, which contracts see as its bytes. The results are in it as the writers held them.
 #[derive(Drop)]
 pub struct ReportText {
     alloc: Global,
     // Up to the list of the steps' reports, since it has the status, which is known last; with room for all that a block may hold.
     block: Vec<u8>,
     parts: Vec<Part>,
-    // What stands behind the last results.
+    // What comes after the last results.
     last: Vec<u8>,
 }
 
@@ -45,14 +45,14 @@ impl Model for ReportText {
     ghost view = { λ text. text.block.items ++ (flat_map part_text text.parts.items ++ text.last.items) };
 }
 
-/// The room that a block needs with results up to this length, of those that are written at once: of each byte there may be six, and each
+/// The room that a block needs with results up to this length, of those that are written at once. Each byte may take six, and each
 /// result has quotes and a comma.
 fn room_for(longest: usize) -> usize {
     let bytes = longest.max(BYTES_AT_ONCE).saturating_mul(6);
     bytes.saturating_add(MOST_AT_ONCE * 3 + BLOCK_ROOM)
 }
 
-/// What stands before the list of the steps' reports, in a text with this room.
+/// What comes before the list of the steps' reports, in a text with this room.
 #[tactic(auto, unfolding(crate::specs::inside::Head::head_text))]
 fn head_of(alloc: Global, room: usize, job: &str, status: Status) -> Result<Vec<u8>, AllocError>
     ensures { IfOk result (λ head. head.items ≡ head_text job.now status) }
@@ -67,7 +67,7 @@ fn head_of(alloc: Global, room: usize, job: &str, status: Status) -> Result<Vec<
     Ok(out.into_inner())
 }
 
-/// The list of the steps' reports, and the end of the text, which stands behind the last results.
+/// The list of the steps' reports, and the end of the text, which comes after the last results.
 fn steps_of(steps: StepsText) -> Result<(Vec<Part>, Vec<u8>), AllocError>
     ensures { IfOk result (λ text. (reports : List StepReport) → steps ≡ steps_tokens reports
         → flat_map part_text text.0.items ++ text.1.items ≡ compact_text (steps_tree reports) ++ 125 ∷ 10 ∷ []) }
@@ -79,8 +79,8 @@ fn steps_of(steps: StepsText) -> Result<(Vec<Part>, Vec<u8>), AllocError>
     Ok((parts, last))
 }
 
-/// Puts the text behind the block, and hands it on once it is full; or hands both on, where the text isn't short. What is left of the
-/// block is given back.
+/// Appends the text to the block, and passes the block on once it is full. A text that isn't short isn't appended: both are passed on.
+/// What is left of the block is given back.
 fn put_text<W: Write>(mut block: Vec<u8>, text: &[u8], writer: &mut W) -> io::Result<Vec<u8>>
     ensures passed { IfOk result (λ rest. PassesOn (W.contents writer.old) (W.contents writer.new) block.items text.now rest.items) }
     ensures front { OnErr result (AppendsFront (W.contents writer.old) (W.contents writer.new) (block.items ++ text.now)) }
@@ -96,7 +96,7 @@ fn put_text<W: Write>(mut block: Vec<u8>, text: &[u8], writer: &mut W) -> io::Re
     Ok(block)
 }
 
-/// Puts a part behind the block, as `put_text` does a text.
+/// Appends a part to the block, as `put_text` does a text.
 fn put_part<W: Write>(
     alloc: Global,
     block: Vec<u8>,
@@ -110,7 +110,7 @@ fn put_part<W: Write>(
     write_results(alloc, block, &part.results, writer)
 }
 
-/// Puts the parts behind the block, one after another.
+/// Appends the parts to the block, one after another.
 fn put_parts<W: Write>(
     alloc: Global,
     mut block: Vec<u8>,

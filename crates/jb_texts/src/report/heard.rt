@@ -3,7 +3,7 @@
 ghost use Rattle.std.specs.Prelude.{◌≡◌, ◌++◌, ◌∷◌, [], map, flat_map, IfOk, OnOk};
 ghost use Rattle.std.specs.List.{range_with_len};
 ghost use Rattle.json.specs.Token.{string};
-ghost use Rattle.jb_collect.specs.Heard.{partition_told};
+ghost use Rattle.jb_collect.specs.Heard.{partition_heard};
 ghost use Rattle.jb_saved.specs.SavedTree.{tokens_of};
 ghost use Rattle.jb_collect.specs.Heard.{calls_about};
 ghost use Rattle.jb_texts.specs.Report.{heard_text, heard_tree, results_tree};
@@ -19,7 +19,7 @@ use std::alloc::{AllocError, Global};
 type Calls<'a> = Vec<&'a AnalyzerCall>;
 
 fn partition_of(call: &AnalyzerCall) -> u32
-    ensures { result ≡ partition_told call.now }
+    ensures { result ≡ partition_heard call.now }
 {
     match call {
         AnalyzerCall::Collected(of, _) => *of,
@@ -38,7 +38,7 @@ fn empty_lists<'a>(alloc: Global, partitions: u32) -> Result<Vec<Calls<'a>>, All
     Ok(lists)
 }
 
-/// Puts the call behind those about its partition. Where no list is its partition's, it is left out.
+/// Puts the call after those about its partition. If no list is its partition's, it is left out.
 fn place<'a>(call: &'a AnalyzerCall, lists: &mut [Calls<'a>]) -> Result<(), AllocError>
     ensures { OnOk result (map (λ list. map (λ c. c.now) list.items) lists.new ≡ placed call.now (map (λ list. map (λ c. c.now) list.items) lists.old)) }
 {

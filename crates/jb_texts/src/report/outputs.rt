@@ -24,7 +24,7 @@ pub const MOST_AT_ONCE: usize = 256;
 /// The most bytes of results that are written before the block is looked at, if it isn't one result.
 pub const BYTES_AT_ONCE: usize = 16_384;
 
-/// Puts a comma behind the block, before a later result.
+/// Appends a comma to the block, before a later result.
 fn with_comma(mut block: Vec<u8>, is_later: bool) -> Result<Vec<u8>, AllocError>
     ensures { IfOk result (λ more. more.items ≡ block.items ++ comma_if is_later) }
 {
@@ -74,7 +74,7 @@ fn write_range(
     Ok(())
 }
 
-/// Puts the results from `from` to `to - 1` behind the block, as texts, with a comma before them where they are later ones.
+/// Appends the results from `from` to `to - 1` to the block, as texts, with a comma before them if they are later ones.
 fn with_range(
     alloc: Global,
     block: Vec<u8>,
@@ -115,7 +115,7 @@ fn end_from(from: usize, count: usize, at_once: usize) -> usize
     }
 }
 
-/// Puts the results behind the block, one after another, and hands it on whenever it is full. What is left of it is given back.
+/// Appends the results to the block, one after another, and passes it on whenever it is full. What is left of it is given back.
 pub fn write_results<W: Write>(
     alloc: Global,
     mut block: Vec<u8>,

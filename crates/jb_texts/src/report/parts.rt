@@ -1,11 +1,11 @@
-//! A part of a report: a text, and results that stand behind it.
+//! A part of a report: a text, and results that follow it.
 
 ghost use Rattle.std.specs.Prelude.{◌≡◌};
 ghost use Rattle.jb_texts.specs.inside.Parts.{longest, longest_of_parts};
 
 use jb_base::PackedList;
 
-/// A text of a report, and the results of a partition, which stand behind it. No text is made of these before they are written.
+/// A text of a report, and the results of a partition, which follow it. No text is made of these before they are written.
 #[derive(Drop)]
 pub struct Part {
     pub text: Vec<u8>,

@@ -25,12 +25,12 @@ use std::alloc::{AllocError, Global};
 use std::marker::Model;
 use std::mem;
 
-/// The reports of a job's steps, as JSON text that grows while they run, but for their results, which stand between its parts as the
+/// The reports of a job's steps, as JSON text that grows while they run. Their results aren't in it: they are between its parts as the
 /// writers held them. Contracts see its tokens.
 #[derive(Drop)]
 pub struct StepsText {
     parts: Vec<Part>,
-    // What stands behind the last results.
+    // What comes after the last results.
     out: Writer,
 }
 
@@ -165,7 +165,7 @@ impl StepsText {
         Ok(())
     }
 
-    /// The parts, and the writer of what stands behind them.
+    /// The parts, and the writer of what comes after them.
     pub(crate) fn into_parts(self) -> (Vec<Part>, Writer)
         ensures before { result.1.before ≡ [] }
         ensures text { (rest : List Token) → print (self ++ rest) ≡ flat_map part_text result.0.items ++ print (result.1.tokens ++ rest) }

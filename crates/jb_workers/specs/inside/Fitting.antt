@@ -4,9 +4,9 @@ use Rattle.jb_base.specs.Limits.{max_records, max_retry_limit}
 use Rattle.jb_chunk.specs.declared.outcome.Outcome.{Outcome}
 use Rattle.jb_chunk.specs.declared.outcome.Outcome.TheVariants.{Committed, Rolled, Failed, NoMemory}
 use Rattle.jb_chunk.specs.Attempt.{AttemptEnd, IsAttempt}
-use Rattle.jb_chunk.specs.Standing.{IsReady}
+use Rattle.jb_chunk.specs.TaskState.{IsReady}
 use Rattle.jb_repo.specs.Deltas.{FitDelta}
-use Rattle.jb_chunk.specs.Standing.{TaskState}
+use Rattle.jb_chunk.specs.TaskState.{TaskState}
 use Rattle.jb_workers.specs.Works.{CanBegin}
 
 -- what a commit adds, if it is one, is a delta

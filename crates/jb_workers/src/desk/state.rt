@@ -42,7 +42,7 @@ impl<L: Ledger> DeskState<L> {
         }
     }
 
-    /// The table as it stands.
+    /// The table as it is now.
     pub(crate) fn snapshot(&self) -> Result<Snapshot, AllocError>
         ensures seen { IfOk result (λ snapshot. IsSeen snapshot) }
         ensures booked { IsBooked self.now.repo self.now.book.total }

@@ -59,7 +59,7 @@ impl<T: PartitionTask> IdleWorker<T> {
 
     /// Asks for the work.
     pub(crate) fn ask<R: Wait>(self, rt: &R, work: Work<T>) -> BusyWorker<T>
-        requires can { CanBegin (T.standing work.task) }
+        requires can { CanBegin (T.task_state work.task) }
         ensures work { result.work.value ≡ work }
     {
         let IdleWorker { open, mut end } = self;
@@ -73,7 +73,7 @@ impl<T: PartitionTask> IdleWorker<T> {
     }
 }
 
-/// Waits for the answer; none where the worker didn't take the work up.
+/// Waits for the answer: `None` if the worker didn't take the work.
 fn heard<R: Wait, T: PartitionTask>(
     rt: &R,
     mailbox: &Mailbox<T>,
@@ -82,7 +82,7 @@ fn heard<R: Wait, T: PartitionTask>(
 ) -> Option<Result<Done<T>, RoundError>>
     requires end { IsPassOf mailbox.now.queue end.old × (view end.old ≡ known true false (Some work.now.value)) }
     ensures end { IsPassOf mailbox.now.queue end.new × (view end.new ≡ known true false None) }
-    ensures meets { IfSome result (λ answer. MeetsWork T.standing work.now.value answer) }
+    ensures meets { IfSome result (λ answer. MeetsWork T.task_state work.now.value answer) }
 {
     for _ in rt.forever() {
         match mailbox.hear(rt, end) {
@@ -95,12 +95,12 @@ fn heard<R: Wait, T: PartitionTask>(
 }
 
 impl<T: PartitionTask> BusyWorker<T> {
-    /// Waits for the answer; none where the worker didn't take the work up.
+    /// Waits for the answer: `None` if the worker didn't take the work.
     pub(crate) fn wait<R: Wait>(
         self,
         rt: &R,
     ) -> (Option<Result<Done<T>, RoundError>>, IdleWorker<T>)
-        ensures meets { IfSome result.0 (λ answer. MeetsWork T.standing self.work.value answer) }
+        ensures meets { IfSome result.0 (λ answer. MeetsWork T.task_state self.work.value answer) }
     {
         let BusyWorker {
             open,

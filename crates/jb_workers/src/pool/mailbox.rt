@@ -39,7 +39,7 @@ impl<T: PartitionTask> Protocol<Message<T>, Known<T>> for OneAtATime {
     ghost use Rattle.std.specs.Prelude.{true, None};
     ghost use Rattle.jb_workers.specs.inside.Mailboxes.{known, IsMailbox};
 
-    ghost holds = { IsMailbox T.standing };
+    ghost holds = { IsMailbox T.task_state };
 
     ghost first = { known true true None };
 }
@@ -71,7 +71,7 @@ impl<T: PartitionTask> Lesson<Message<T>, Known<T>> for Asking {
 pub struct Taking;
 
 impl<T: PartitionTask> Outcome<Message<T>, Known<T>> for Taking {
-    ghost then = { Takes T.standing };
+    ghost then = { Takes T.task_state };
 }
 
 /// The worker answers.
@@ -89,7 +89,7 @@ impl<T: PartitionTask> Lesson<Message<T>, Known<T>> for Answering {
 pub struct Hearing;
 
 impl<T: PartitionTask> Outcome<Message<T>, Known<T>> for Hearing {
-    ghost then = { Hears T.standing };
+    ghost then = { Hears T.task_state };
 }
 
 type Queue<T> = RuledArrayQueue<Message<T>, Known<T>, OneAtATime>;
@@ -126,7 +126,7 @@ impl<T: PartitionTask> Mailbox<T> {
     /// Asks for a work.
     pub(crate) fn ask<R: Wait>(&self, rt: &R, end: &mut End<T>, work: Work<T>)
         requires end { IsPassOf self.now.queue end.old × (view end.old ≡ known true false None) }
-        requires can { CanBegin (T.standing work.task) }
+        requires can { CanBegin (T.task_state work.task) }
         ensures end { IsPassOf self.now.queue end.new × (view end.new ≡ known true false (Some work)) }
     {
         match self.queue.push_as::<Asking, R>(rt, end, Message::Ask(work)) {
@@ -140,18 +140,18 @@ impl<T: PartitionTask> Mailbox<T> {
         requires end { IsPassOf self.now.queue end.old × (((view end.old).of_caller ≡ true) × ((view end.old).of_worker ≡ false)) }
         ensures end { IsPassOf self.now.queue end.new }
         ensures none { IfNone result (view end.new ≡ view end.old) }
-        ensures some { IfSome result (λ x. Hears T.standing (view end.old) x (view end.new)) }
+        ensures some { IfSome result (λ x. Hears T.task_state (view end.old) x (view end.new)) }
     {
         self.answered.wait(rt);
         self.queue.try_pop_as::<Hearing>(end)
     }
 
-    /// The work that is asked for, once there is one; none where the mailbox was closed.
+    /// Waits for a work and takes it, or gives `None` if the mailbox was closed.
     pub(crate) fn take<R: Wait>(&self, rt: &R, end: &mut End<T>) -> Option<Work<T>>
         requires end { IsPassOf self.now.queue end.old × (view end.old ≡ known false true None) }
         ensures end { IsPassOf self.now.queue end.new }
         ensures none { IfNone result (view end.new ≡ known false true None) }
-        ensures some { IfSome result (λ work. (view end.new ≡ known false true (Some work)) × CanBegin (T.standing work.task)) }
+        ensures some { IfSome result (λ work. (view end.new ≡ known false true (Some work)) × CanBegin (T.task_state work.task)) }
     {
         self.asked.wait(rt);
         match self.queue.try_pop_as::<Taking>(end) {
@@ -160,7 +160,7 @@ impl<T: PartitionTask> Mailbox<T> {
         }
     }
 
-    /// Answers the work that was taken up.
+    /// Answers the work that was taken.
     pub(crate) fn answer<R: Wait>(
         &self,
         rt: &R,
@@ -169,7 +169,7 @@ impl<T: PartitionTask> Mailbox<T> {
         answer: Result<Done<T>, RoundError>,
     )
         requires end { IsPassOf self.now.queue end.old × (view end.old ≡ known false true (Some work.value)) }
-        requires meets { MeetsWork T.standing work.value answer }
+        requires meets { MeetsWork T.task_state work.value answer }
         ensures end { IsPassOf self.now.queue end.new × (view end.new ≡ known false true None) }
     {
         match self

@@ -28,7 +28,7 @@ fn do_asked<L: Ledger, T: PartitionTask, G: Gate, R: Wait>(
     share: Share<L>,
 ) -> Share<L>
     requires end { IsPassOf mailbox.now.queue end.old × (view end.old ≡ known false true (Some next)) }
-    requires can { CanBegin (T.standing next.task) }
+    requires can { CanBegin (T.task_state next.task) }
     requires part { share.parts ≡ 1 }
     ensures end { IsPassOf mailbox.now.queue end.new × (view end.new ≡ known false true None) }
     ensures part { result.parts ≡ 1 }

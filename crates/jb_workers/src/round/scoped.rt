@@ -31,21 +31,21 @@ pub(crate) fn in_scope<
     gate: &G,
     works: Vec<Work<T>>,
 ) -> Result<Vec<Done<T>>, RoundError>
-    requires { AllCanBegin T.standing works.items }
-    ensures round { IfOk result (λ dones. AreRoundOf T.standing works.items dones.items) }
-    ensures in_order { RiseByPartition T.standing works.items → IfOk result (λ dones. AreDones T.standing works.items dones.items) }
+    requires { AllCanBegin T.task_state works.items }
+    ensures round { IfOk result (λ dones. AreRoundOf T.task_state works.items dones.items) }
+    ensures in_order { RiseByPartition T.task_state works.items → IfOk result (λ dones. AreDones T.task_state works.items dones.items) }
     ensures closed { OnOk result (IsAccepted Round) }
-    ensures error { IfErr result (λ error. IsRoundError T.standing works.items error) }
+    ensures error { IfErr result (λ error. IsRoundError T.task_state works.items error) }
 {
     thread::scope(
         thread::scope_env(),
         rt,
         |scope| -> Result<Vec<Done<T>>, RoundError>
-            requires { AllCanBegin T.standing works.items }
-            ensures { IfOk result (λ dones. AreRoundOf T.standing works.items dones.items)
-                × (RiseByPartition T.standing works.items → IfOk result (λ dones. AreDones T.standing works.items dones.items))
+            requires { AllCanBegin T.task_state works.items }
+            ensures { IfOk result (λ dones. AreRoundOf T.task_state works.items dones.items)
+                × (RiseByPartition T.task_state works.items → IfOk result (λ dones. AreDones T.task_state works.items dones.items))
                 × OnOk result (IsAccepted Round)
-                × IfErr result (λ error. IsRoundError T.standing works.items error) }
+                × IfErr result (λ error. IsRoundError T.task_state works.items error) }
         { by_new_pool(scope, desk, rt, alloc, gate, works) },
     )
 }
@@ -66,11 +66,11 @@ fn by_new_pool<
     gate: &'s G,
     works: Vec<Work<T>>,
 ) -> Result<Vec<Done<T>>, RoundError>
-    requires { AllCanBegin T.standing works.items }
-    ensures round { IfOk result (λ dones. AreRoundOf T.standing works.items dones.items) }
-    ensures in_order { RiseByPartition T.standing works.items → IfOk result (λ dones. AreDones T.standing works.items dones.items) }
+    requires { AllCanBegin T.task_state works.items }
+    ensures round { IfOk result (λ dones. AreRoundOf T.task_state works.items dones.items) }
+    ensures in_order { RiseByPartition T.task_state works.items → IfOk result (λ dones. AreDones T.task_state works.items dones.items) }
     ensures closed { OnOk result (IsAccepted Round) }
-    ensures error { IfErr result (λ error. IsRoundError T.standing works.items error) }
+    ensures error { IfErr result (λ error. IsRoundError T.task_state works.items error) }
 {
     let mut pool = start_pool(
         &*scope,

@@ -27,9 +27,9 @@ fn do_here<L: Ledger, T: PartitionTask, G: Gate, R: Wait>(
     only: Work<T>,
     parts: &mut Parts<L>,
 ) -> Result<Vec<Report<T>>, RoundError>
-    requires can { CanBegin (T.standing only.task) }
+    requires can { CanBegin (T.task_state only.task) }
     requires part { 0 < parts.old.number }
-    ensures reports { IfOk result (λ reports. AreReports T.standing (only ∷ []) reports.items) }
+    ensures reports { IfOk result (λ reports. AreReports T.task_state (only ∷ []) reports.items) }
     ensures err { IfErr result (λ error. error ≡ Memory) }
 {
     let lane = only.lane;
@@ -52,10 +52,10 @@ pub(crate) fn do_works<L: Ledger, T: PartitionTask, G: Gate, R: Wait>(
     mut works: Vec<Work<T>>,
     parts: &mut Parts<L>,
 ) -> Result<Vec<Report<T>>, RoundError>
-    requires can { AllCanBegin T.standing works.items }
+    requires can { AllCanBegin T.task_state works.items }
     requires workers { vec_len works ≤ pool.old + 1 }
     requires part { 0 < parts.old.number }
-    ensures reports { IfOk result (λ reports. AreReports T.standing works.items reports.items) }
+    ensures reports { IfOk result (λ reports. AreReports T.task_state works.items reports.items) }
     ensures err { IfErr result (λ error. is_refusal error ≡ false) }
     ensures kept { OnOk result (pool.new ≡ pool.old) }
 {

@@ -1,6 +1,6 @@
 use Rattle.std.proofs.Common.{◌-◌, ◌≤◌}
 use Rattle.jb_rules.specs.Sound.{IsSoundRow}
-use Rattle.jb_chunk.specs.Standing.{HasRepeats}
+use Rattle.jb_chunk.specs.TaskState.{HasRepeats}
 use Rattle.jb_chunk.specs.inside.TriedChunk.{OfTask}
 use Rattle.jb_chunk.specs.inside.Gathering.{yield_of}
 use Rattle.jb_chunk.specs.inside.Repeats.{IsGathering}

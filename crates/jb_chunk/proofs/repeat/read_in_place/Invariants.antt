@@ -1,6 +1,6 @@
 use Rattle.std.proofs.Common.{◌-◌}
 use Rattle.jb_rules.specs.Sound.{IsSoundRow}
-use Rattle.jb_chunk.specs.Standing.{HasRepeats}
+use Rattle.jb_chunk.specs.TaskState.{HasRepeats}
 use Rattle.jb_chunk.specs.inside.Repeats.{IsCalling, read_call}
 use Rattle.jb_chunk.proofs.repeat.read_in_place.Given as goal
 

@@ -7,7 +7,7 @@ use Rattle.jb_collect.proofs.delivery.deliver_one.Goals as goal
 
 pub returns-in_err-hand_over : goal.returns-in_err-hand_over
 returns-in_err-hand_over g c =
-    let e : AttemptEnd = ending_of (g.T.PartitionTask.standing c.args.task.now) NoMemory c.args.texts.items 0 in
+    let e : AttemptEnd = ending_of (g.T.PartitionTask.task_state c.args.task.now) NoMemory c.args.texts.items 0 in
     let told : c.from_residual.result ≡ Err c.in_err-hand_over.field-0.0 = search rules in
     let read : IsRead e c.partition-partition.result c.args.texts.items e.task.row.state =
     record { partition = c.partition-partition.ensures; texts_are = refl; state = refl } in
@@ -15,7 +15,7 @@ returns-in_err-hand_over g c =
 
 pub returns : goal.returns
 returns g c =
-    let e : AttemptEnd = ending_of (g.T.PartitionTask.standing c.args.task.now) NoMemory c.args.texts.items 0 in
+    let e : AttemptEnd = ending_of (g.T.PartitionTask.task_state c.args.task.now) NoMemory c.args.texts.items 0 in
     let read : IsRead e c.partition-partition.result c.args.texts.items c.row.result.now.state =
     record { partition = c.partition-partition.ensures; texts_are = refl; state = ap (λ (r : Row). r.state) c.row.ensures } in
     attempt_told _ _ _ e c.partition-partition.result c.args.texts.items c.row.result.now.state c.in_ok-hand_over.field-0 c.tell_end.result read c.in_ok-hand_over.ensures c.tell_end.ensures

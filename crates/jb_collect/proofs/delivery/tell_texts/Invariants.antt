@@ -1,6 +1,6 @@
 use Rattle.std.proofs.Common.{take, None}
 use Rattle.jb_collect.specs.Heard.{collected_calls}
-use Rattle.jb_collect.specs.Taken.{HasTaken}
+use Rattle.jb_collect.specs.AnsweredCalls.{HasTaken}
 use Rattle.jb_collect.proofs.delivery.tell_texts.Given as goal
 
 abbrev pub invariant-loop-text : goal.invariant-loop-text

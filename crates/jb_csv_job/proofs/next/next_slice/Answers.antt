@@ -2,7 +2,7 @@ use Rattle.std.proofs.Common.{◌≡◌, ◌∙◌, List, ℕ, suc, ap, map, rul
 use Rattle.std.specs.Arc.{arc_value}
 use Rattle.jb_rows.specs.Fields.{packed}
 use Rattle.jb_csv_job.specs.Job.{job_record}
-use Rattle.jb_csv_job.specs.Kept.{HoldsSlice, image_by, slice_of}
+use Rattle.jb_csv_job.specs.SliceFiles.{HoldsSlice, image_by, slice_of}
 use Rattle.jb_csv_job.specs.Loop.{AreDone, IsLeft, StandsBefore}
 use Rattle.jb_csv_job.specs.Slices.{IsSliceEnd}
 use Rattle.jb_csv_job.specs.Tasks.{is_own}

@@ -1,5 +1,5 @@
 use Rattle.std.proofs.Common.{◌≡◌, ◌++◌, List, ℕ, suc, ap, refl, subst, inl, inr, true, false}
-use Rattle.jb_records.specs.Shares.{joined}
+use Rattle.jb_records.specs.PartitionResults.{joined}
 use Rattle.jb_csv_job.specs.Job.{job_record}
 use Rattle.jb_csv_job.specs.Loop.{AreDone}
 use Rattle.jb_csv_job.specs.Tasks.{given_by}
@@ -12,9 +12,9 @@ returns-in_ok-give-in-Gives-clause-goes g c f items number own has ends start ta
     let job = job_record work.job.now work.asked.now f in
     let end = c.args.end.now in
     let counted = c.in_ok-add.ensures.gives c.in-Gives.is in
-    let shares = c.as_slice.ensures.value in (
+    let partition_results = c.as_slice.ensures.value in (
       taken ++ given_by job.task (joined end.results.items),
-      subst (λ xs. g.N.Sink.took start c.give.new.sink (taken ++ given_by job.task (joined xs))) shares (c.in_ok-give-in-Gives.ensures.taken start taken took),
+      subst (λ xs. g.N.Sink.took start c.give.new.sink (taken ++ given_by job.task (joined xs))) partition_results (c.in_ok-give-in-Gives.ensures.taken start taken took),
       given-away job items number c.args.tally.now c.add.new.self taken done own end ends counted.0 counted.1 counted.2 counted.3 counted.4,
       λ no. yes-or-no true refl no,
     )

@@ -2,9 +2,9 @@ use Rattle.std.proofs.Common.{◌≡◌, ◌+◌, suc, List, [], true, false, ar
 use Rattle.std.specs.Arc.{arc_value}
 use Rattle.jb_rows.specs.Fields.{packed}
 use Rattle.jb_csv_job.specs.Job.{job_record}
-use Rattle.jb_csv_job.specs.Kept.{image_by}
+use Rattle.jb_csv_job.specs.SliceFiles.{image_by}
 use Rattle.jb_csv_job.specs.Done.{HasTakenSoFar}
-use Rattle.jb_csv_job.specs.Loop.{AreDone, HasGoneOn, IsLeftOfAny, IsOfText, StandsBefore}
+use Rattle.jb_csv_job.specs.Loop.{AreDone, HasGoneOn, IsLeftOfAny, IsSliceOfText, StandsBefore}
 use Rattle.jb_csv_job.proofs.Carrying.{either-way, none-taken}
 use Rattle.jb_csv_job.proofs.Going.{any-left, first-stands, has-ended, left-of-text, none-done, read-of, so-far}
 use Rattle.jb_csv_job.proofs.run.all_slices.Goals as goal
@@ -87,7 +87,7 @@ returns-then-not-more-clause-left g c clean text given functions up k read image
       | inr run ↦ inr run
     ] in
     let are = read-of job functions text g.H.Stored.log g.H.Stored.db up in
-    let items : IsOfText job up.records (g.K.Keeper.may_leave c.args.keeper.now k read image) k read =
+    let items : IsSliceOfText job up.records (g.K.Keeper.may_leave c.args.keeper.now k read image) k read =
     elim (next.items clean text up.records are (at.reads text up.records given are) k read image may) [
       | inl before ↦ at.items (next.clean clean) text up.records given are k read image before
       | inr is ↦ inr is
@@ -126,7 +126,7 @@ returns-in_err-finish-clause-left g c clean text given functions up k read image
       | inr run ↦ inr run
     ] in
     let are = read-of job functions text g.H.Stored.log g.H.Stored.db up in
-    let items : IsOfText job up.records (g.K.Keeper.may_leave c.args.keeper.now k read image) k read =
+    let items : IsSliceOfText job up.records (g.K.Keeper.may_leave c.args.keeper.now k read image) k read =
     elim (next.items clean text up.records are (at.reads text up.records given are) k read image may) [
       | inl before ↦ at.items (next.clean clean) text up.records given are k read image before
       | inr is ↦ inr is
@@ -166,7 +166,7 @@ returns-in-Err-clause-left g c clean text given functions up k read image may =
       | inr run ↦ inr run
     ] in
     let are = read-of job functions text g.H.Stored.log g.H.Stored.db up in
-    let items : IsOfText job up.records (g.K.Keeper.may_leave c.args.keeper.now k read image) k read =
+    let items : IsSliceOfText job up.records (g.K.Keeper.may_leave c.args.keeper.now k read image) k read =
     elim (next.items clean text up.records are (at.reads text up.records given are) k read image may) [
       | inl before ↦ at.items (next.clean clean) text up.records given are k read image before
       | inr is ↦ inr is

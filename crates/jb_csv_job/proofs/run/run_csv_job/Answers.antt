@@ -7,7 +7,7 @@ use Rattle.jb_rows.specs.Texts.{copied_by}
 use Rattle.jb_slices.specs.Job.{first_of}
 use Rattle.jb_csv_job.specs.Done.{HasSkipped, IsByRules, IsInput}
 use Rattle.jb_csv_job.specs.Job.{job_record}
-use Rattle.jb_csv_job.specs.Kept.{LeavesSlice}
+use Rattle.jb_csv_job.specs.SliceFiles.{LeavesSlice}
 use Rattle.jb_csv_job.specs.Sinks.{HasTaken}
 use Rattle.jb_csv_job.proofs.Carrying.{known-up}
 use Rattle.jb_csv_job.proofs.Writing.{first-packed, written}

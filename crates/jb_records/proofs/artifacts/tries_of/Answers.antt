@@ -16,10 +16,10 @@ pub loop-index-preserved : goal.loop-index-preserved
 loop-index-preserved g c =
     let f = g.F.StepFunction.function c.args.function.now in
     let put = c.in_ok-put_tries.ensures in
-    let told = c.in_ok-classes.ensures in
+    let written_before = c.in_ok-classes.ensures in
     let never : AreNeverSkipped c.args.rules.now c.in_ok-classes.classes.items = search rules in (
       never-more c.args.rules.now (plans_of c.loop-index.tries) (plans_of c.put_tries.new.tries) _ _ never put c.loop-index.invariant.0,
-      one-more f c.args.first c.args.records.now c.loop-index.index c.at.result.now c.in_ok-classes.classes.items _ _ c.at.ensures (told ∙ ap f.tries c.of.ensures) put c.loop-index.invariant.1,
+      one-more f c.args.first c.args.records.now c.loop-index.index c.at.result.now c.in_ok-classes.classes.items _ _ c.at.ensures (written_before ∙ ap f.tries c.of.ensures) put c.loop-index.invariant.1,
     )
 
 pub returns-clause-tries : goal.returns-clause-tries

@@ -9,7 +9,7 @@ use Rattle.jb_records.proofs.run.run_records.Goals as goal
 
 pub returns-clause-run : goal.returns-clause-run
 returns-clause-run g c =
-    IfOk-weaker c.run_on.result _ _ (λ end made. record { setup = c.in_ok-job.job.prepared; shares = c.in_ok-job.job.results.items; begun = c.in_ok-job.ensures.begun; made = made }) c.run_on.ensures.made
+    IfOk-weaker c.run_on.result _ _ (λ end made. record { setup = c.in_ok-job.job.prepared; partition_results = c.in_ok-job.job.results.items; begun = c.in_ok-job.ensures.begun; made = made }) c.run_on.ensures.made
 
 pub returns-clause-so_far : goal.returns-clause-so_far
 returns-clause-so_far g c none =

@@ -5,4 +5,4 @@ pub returns-clause-opened : goal.returns-clause-opened
 returns-clause-opened c = openings_are_accepted
 
 pub returns-clause-again : goal.returns-clause-again
-returns-clause-again c = rows_may_be_opened_again c.laws_below.ensures
+returns-clause-again c = rows_may_be_opened_again c.lower_laws.ensures

@@ -2,7 +2,7 @@ use Rattle.std.proofs.Common.{◌≡◌, ◌&&◌, false, refl, subst, subst₂,
 use Rattle.sqlite_wal.specs.Files.{outcomes}
 use Rattle.sqlite_wal.specs.Reads.{AreClean}
 use Rattle.sqlite.specs.Closing.{files_left}
-use Rattle.jb_slice_file.specs.Watched.{disk_of}
+use Rattle.jb_slice_file.specs.RecordingDisk.{disk_of}
 use Rattle.sqlite_disk.specs.declared.Disk.{Ghosts}
 use Rattle.sqlite_wal.specs.Recovery.{Image}
 use Rattle.sqlite_pool.proofs.StateLemmas.{clean_is, may_leave_is}

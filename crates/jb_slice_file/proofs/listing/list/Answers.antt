@@ -3,14 +3,14 @@ use Rattle.std.proofs.lemmas.Result.{IfErr-at_err, IfErr-weaker, IfOk-weaker}
 use Rattle.std.specs.List.{AllByRecursion}
 use Rattle.sqlite.specs.Held.{state}
 use Rattle.sqlite.specs.State.{HasCleanDisk, Shown, State}
-use Rattle.jb_slice_file.specs.Kept.{Kept, kept}
+use Rattle.jb_slice_file.specs.CheckpointBytes.{CheckpointBytes, checkpoint_bytes}
 use Rattle.jb_slice_file.specs.Chain.{chained}
 use Rattle.jb_slice_file.specs.Rows.{HoldsList, shown_from}
 use Rattle.sqlite.specs.declared.error.Error.{Error}
 use Rattle.jb_slice_file.specs.declared.error.StoreError.{StoreError}
 use Rattle.jb_slice_file.specs.declared.error.StoreError.TheVariants.{Altered, Gap, Memory, Sql}
 use Rattle.jb_slice_file.specs.Errors.{IsListFault, IsStoreFault}
-use Rattle.jb_slice_file.specs.Form.{checkpoint_schema}
+use Rattle.jb_slice_file.specs.TableSchema.{checkpoint_schema}
 use Rattle.jb_slice_file.proofs.Failing.{not_read}
 use Rattle.jb_slice_file.proofs.Read.{altered_back, lists, lists_back, never_listed, survives, unchanged, wide}
 use Rattle.jb_slice_file.proofs.Texts.{select_text}
@@ -50,11 +50,11 @@ module _ (g : _) (c : goal.After-drop-rows g) where
     all_wide : AllByRecursion (λ row. length row ≡ 4) c.deref.result.now
     all_wide = subst (AllByRecursion (λ row. length row ≡ 4)) (sym c.deref.ensures.value) (wide old new ours c.in_ok-rows.rows.items (said clean))
 
-    taken : IfOk c.checkpoints_of.result (λ found. c.in_ok-rows.rows.items ≡ shown_from 1 (chained (map kept found.0.items)))
-    taken = subst (λ rows. IfOk c.checkpoints_of.result (λ found. rows ≡ shown_from 1 (chained (map kept found.0.items)))) c.deref.ensures.value
+    taken : IfOk c.checkpoints_of.result (λ found. c.in_ok-rows.rows.items ≡ shown_from 1 (chained (map checkpoint_bytes found.0.items)))
+    taken = subst (λ rows. IfOk c.checkpoints_of.result (λ found. rows ≡ shown_from 1 (chained (map checkpoint_bytes found.0.items)))) c.deref.ensures.value
         (c.checkpoints_of.ensures.read all_wide)
 
-  are_listed : HasCleanDisk new → (all : List Kept) → HoldsList old.now all → c.in_ok-rows.rows.items ≡ shown_from 1 (chained all)
+  are_listed : HasCleanDisk new → (all : List CheckpointBytes) → HoldsList old.now all → c.in_ok-rows.rows.items ≡ shown_from 1 (chained all)
   are_listed clean all holds = lists old new holds.schema c.in_ok-rows.rows.items (said clean) (chained all) holds.rows
 
 pub returns : goal.returns
@@ -63,8 +63,8 @@ returns g c =
     let read = c.checkpoints_of.ensures in
     let items = c.in_ok-rows.rows.items in
     let gone = survives (old g c) (new g c) in record {
-      rows = λ clean all holds. IfOk-weaker r _ _ (λ found is. shown_once (map kept found.0.items) all (sym is ∙ are_listed g c clean all holds)) (taken g c clean holds.schema);
-      found = λ clean ours sound. IfOk-weaker r _ _ (λ found is. lists_back (old g c) (new g c) ours items (said g c clean) sound (map kept found.0.items) is) (taken g c clean ours);
+      rows = λ clean all holds. IfOk-weaker r _ _ (λ found is. shown_once (map checkpoint_bytes found.0.items) all (sym is ∙ are_listed g c clean all holds)) (taken g c clean holds.schema);
+      found = λ clean ours sound. IfOk-weaker r _ _ (λ found is. lists_back (old g c) (new g c) ours items (said g c clean) sound (map checkpoint_bytes found.0.items) is) (taken g c clean ours);
       end = read.end;
       named = read.named;
       gap = λ clean ours. each_err r _ (λ e is gap all are. IfErr-at_err _ is (read.gap all (c.deref.ensures.value ∙ lists (old g c) (new g c) ours items (said g c clean) all are)) gap);

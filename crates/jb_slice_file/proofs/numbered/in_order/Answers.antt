@@ -1,7 +1,7 @@
 use Rattle.std.proofs.Common.{◌≡◌, ◌≢◌, ◌+◌, ◌∷◌, length, map, pos, rules, ap, subst, sym, ◌∙◌, arith, true≢false}
 use Rattle.std.specs.Vec.Iter.{into_iter_items}
 use Rattle.jb_slice_file.specs.Chain.{last_link, link_of}
-use Rattle.jb_slice_file.specs.Kept.{kept}
+use Rattle.jb_slice_file.specs.CheckpointBytes.{checkpoint_bytes}
 use Rattle.jb_slice_file.specs.Numbered.{IsAlteredAt, numbered}
 use Rattle.jb_slice_file.proofs.Numbers.{altered, last_next, other_number, push_next}
 use Rattle.jb_slice_file.proofs.numbered.in_order.Goals as goal
@@ -19,9 +19,9 @@ returns-then-not-has_link-clause-altered c number same =
     let next : into_iter_items c.found.one-iterator ≡ c.in-Some.one ∷ into_iter_items c.next.new.self = search rules in
     let count : c.len.result + 1 ≡ 1 + length c.found.all.items = omega (arith, c.len.ensures) in
     let is = (c.is_under.ensures).0 c.if-not-is_under.false in
-    let link : c.link_of-link.result ≡ link_of (last_link (map kept c.found.all.items)) (1 + length c.found.all.items) (kept c.in-Some.one.checkpoint) =
+    let link : c.link_of-link.result ≡ link_of (last_link (map checkpoint_bytes c.found.all.items)) (1 + length c.found.all.items) (checkpoint_bytes c.in-Some.one.checkpoint) =
     (c.link_of-link.ensures ∙ (λ i. link_of (c.found.invariant.last i) (count i) (record { saved = c.as_str.ensures.value i; results = c.as_slice.ensures.value i }))) in
-    let other : c.in-Some.one.link.items ≢ link_of (last_link (map kept c.found.all.items)) (1 + length c.found.all.items) (kept c.in-Some.one.checkpoint) =
+    let other : c.in-Some.one.link.items ≢ link_of (last_link (map checkpoint_bytes c.found.all.items)) (1 + length c.found.all.items) (checkpoint_bytes c.in-Some.one.checkpoint) =
     (λ e. true≢false (sym ((c.has_link.ensures).1 (e ∙ sym link)) ∙ c.if-not-has_link.true)) in
     let at = altered c.found.all.items c.in-Some.one _ _ _ next (is ∙ ap pos count) other c.found.invariant.list in
     let number_is : c.len.result + 1 ≡ number = cc in
@@ -32,7 +32,7 @@ found-preserved c =
     let next : into_iter_items c.found.one-iterator ≡ c.in-Some.one ∷ into_iter_items c.next.new.self = search rules in
     let count : c.len.result + 1 ≡ 1 + length c.found.all.items = omega (arith, c.len.ensures) in
     let is = (c.is_under.ensures).0 c.if-not-is_under.false in
-    let link : c.link_of-link.result ≡ link_of (last_link (map kept c.found.all.items)) (1 + length c.found.all.items) (kept c.in-Some.one.checkpoint) =
+    let link : c.link_of-link.result ≡ link_of (last_link (map checkpoint_bytes c.found.all.items)) (1 + length c.found.all.items) (checkpoint_bytes c.in-Some.one.checkpoint) =
     (c.link_of-link.ensures ∙ (λ i. link_of (c.found.invariant.last i) (count i) (record { saved = c.as_str.ensures.value i; results = c.as_slice.ensures.value i }))) in
     let found = (c.has_link.ensures).0 c.if-not-has_link.false in
     record {

@@ -1,6 +1,6 @@
 use Rattle.std.proofs.Common.{◌≡◌, ◌++◌, map}
 use Rattle.std.specs.Vec.Iter.{into_iter_items}
-use Rattle.jb_slice_file.specs.Kept.{kept}
+use Rattle.jb_slice_file.specs.CheckpointBytes.{checkpoint_bytes}
 use Rattle.jb_slice_file.specs.Chain.{chained, last_link}
 use Rattle.jb_slice_file.specs.Numbered.{numbered, numbered_from}
 use Rattle.jb_slice_file.proofs.numbered.in_order.Given as goal
@@ -8,6 +8,6 @@ use Rattle.jb_slice_file.proofs.numbered.in_order.Given as goal
 -- those so far are the first ones, and those to come stand behind them
 abbrev pub invariant-found : goal.invariant-found
 invariant-found l = record {
-  list : map numbered l.fn.found.items ≡ numbered_from 1 (chained (map kept l.all.items)) ++ map numbered (into_iter_items l.one-iterator);
-  last : l.last ≡ last_link (map kept l.all.items);
+  list : map numbered l.fn.found.items ≡ numbered_from 1 (chained (map checkpoint_bytes l.all.items)) ++ map numbered (into_iter_items l.one-iterator);
+  last : l.last ≡ last_link (map checkpoint_bytes l.all.items);
 }

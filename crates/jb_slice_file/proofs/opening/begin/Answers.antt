@@ -9,8 +9,8 @@ use Rattle.sqlite_disk.specs.Disk.{MoreFaults}
 use Rattle.jb_slice_file.specs.declared.error.StoreError.{StoreError}
 use Rattle.jb_slice_file.specs.declared.error.StoreError.TheVariants.{Altered, Foreign, Version, Gap}
 use Rattle.jb_slice_file.specs.Errors.{IsOpenCause}
-use Rattle.jb_slice_file.specs.Form.{IsForeign, IsOtherVersion, checkpoint_schema, no_schema}
-use Rattle.jb_slice_file.specs.Kept.{Kept, kept}
+use Rattle.jb_slice_file.specs.TableSchema.{IsForeign, IsOtherVersion, checkpoint_schema, no_schema}
+use Rattle.jb_slice_file.specs.CheckpointBytes.{CheckpointBytes, checkpoint_bytes}
 use Rattle.jb_slice_file.specs.Chain.{chained}
 use Rattle.jb_slice_file.specs.Rows.{AreIn, HasGap, HoldsList, IsAltered, StandsFor}
 use Rattle.jb_slice_file.specs.Connections.{IsAsItWas, IsJustOpened, Keeps}
@@ -67,7 +67,7 @@ module _ (g : _) (c : goal.After-list g) where
   sound : IsJustOpened old → IsOurs → IsSound checkpoint_schema mid.now.trees
   sound opened ours = subst (λ h. IsSound checkpoint_schema (state g.S.Store h).now.trees) (sym (same ours)) (is_sound old settled opened ours)
 
-  holds : IsOurs → (all : List Kept) → AreIn old.now.trees all → HoldsList mid.now all
+  holds : IsOurs → (all : List CheckpointBytes) → AreIn old.now.trees all → HoldsList mid.now all
   holds ours all rows = subst (λ h. HoldsList (state g.S.Store h).now all) (sym (same ours)) (record { schema = ours; rows = rows })
 
   left : HasCleanDisk new → IsJustOpened old → IsOurs → (db : Trees) → new.may_leave db → db ≡ old.now.trees
@@ -101,7 +101,7 @@ returns g c = record {
         let k = made g c clean opened none in
         (subst (Keeps (new g c)) (sym (IfOk-at_ok _ is (c.list.ensures.rows clean [] k.shows))) (IfOk-at_ok _ is (c.list.ensures.kept clean [] k)), inr (none, IfOk-at_ok _ is (c.list.ensures.rows clean [] k.shows)))
     | inr ours ↦
-        let all = map kept found.0.items in
+        let all = map checkpoint_bytes found.0.items in
         let rows = subst (λ h. AreIn (state g.S.Store h).now.trees all) (same g c ours) (IfOk-at_ok _ is (c.list.ensures.found clean (still g c ours) (sound g c opened ours))) in
         let keeps = subst (λ h. Keeps (state g.S.Store h) all) (sym (same g c ours)) (keeps_found (old g c) (settled g c) opened ours all rows) in
         (IfOk-at_ok _ is (c.list.ensures.kept clean all keeps), inl (record { schema = ours; rows = rows }))

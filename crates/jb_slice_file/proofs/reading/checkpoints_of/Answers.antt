@@ -2,7 +2,7 @@ use Rattle.std.proofs.Common.{◌≡◌, inl, inr, ap, sym, ◌∙◌, map, leng
 use Rattle.std.proofs.lemmas.Result.{IfErr-weaker, IfOk-weaker}
 use Rattle.std.specs.List.{AllByRecursion}
 use Rattle.jb_slice_file.specs.Chain.{chained}
-use Rattle.jb_slice_file.specs.Kept.{kept}
+use Rattle.jb_slice_file.specs.CheckpointBytes.{checkpoint_bytes}
 use Rattle.jb_slice_file.specs.Numbered.{numbered}
 use Rattle.jb_slice_file.specs.Rows.{columns_of}
 use Rattle.jb_slice_file.proofs.Columns.{are_wide, rows_of_list, rows_once}
@@ -13,7 +13,7 @@ returns c =
     let r = c.in_order.result in
     let order = c.in_order.ensures in
     let read = c.in_ok-found.ensures.read in record {
-      read = λ wide. IfOk-weaker r _ _ (λ listed list. read wide ∙ ap (map columns_of) list ∙ rows_of_list 1 (chained (map kept listed.0.items))) order.list;
+      read = λ wide. IfOk-weaker r _ _ (λ listed list. read wide ∙ ap (map columns_of) list ∙ rows_of_list 1 (chained (map checkpoint_bytes listed.0.items))) order.list;
       end = order.end;
       named = IfErr-weaker r _ _ (λ e why. elim why [
         | inl gap ↦ ((λ is. let none : ⊥ = cc in none), (λ is. let none : ⊥ = cc in none))

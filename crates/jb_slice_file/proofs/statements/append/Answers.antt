@@ -3,7 +3,7 @@ use Rattle.std.proofs.lemmas.Result.{err_from_is_err_and}
 use Rattle.sqlite.specs.Held.{state}
 use Rattle.jb_slice_file.specs.Chain.{Linked}
 use Rattle.jb_slice_file.specs.Errors.{IsCaused, refusal_named}
-use Rattle.jb_slice_file.specs.Kept.{Kept}
+use Rattle.jb_slice_file.specs.CheckpointBytes.{CheckpointBytes}
 use Rattle.jb_slice_file.specs.ListEnd.{IsEndOf, count_of}
 use Rattle.jb_slice_file.specs.Rows.{HasNumber, IsTooLong}
 use Rattle.jb_slice_file.proofs.Caused.{causes}
@@ -14,7 +14,7 @@ use Rattle.jb_slice_file.proofs.statements.append.Goals as goal
 -- the statement failed
 pub returns-in_err-execute : goal.returns-in_err-execute
 returns-in_err-execute g c =
-    let it : Kept = record { saved = c.args.saved.now; results = c.args.results.now } in
+    let it : CheckpointBytes = record { saved = c.args.saved.now; results = c.args.results.now } in
     let one : Linked = record { it = it; link = c.in-Some.longer.link } in
     let old = state g.S.Store c.args.conn.now in
     let new = state g.S.Store c.execute.new.self in
@@ -42,7 +42,7 @@ returns-in_err-execute g c =
 -- it was committed
 pub returns : goal.returns
 returns g c =
-    let it : Kept = record { saved = c.args.saved.now; results = c.args.results.now } in
+    let it : CheckpointBytes = record { saved = c.args.saved.now; results = c.args.results.now } in
     let one : Linked = record { it = it; link = c.in-Some.longer.link } in
     let old = state g.S.Store c.args.conn.now in
     let new = state g.S.Store c.execute.new.self in

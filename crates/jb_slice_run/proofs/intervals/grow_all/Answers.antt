@@ -1,35 +1,35 @@
 use Rattle.std.proofs.Common.{◌<◌, ◌≤◌, List, length, map, get_or, take_all, refl, sym, ap, subst, ◌∙◌, arith}
 use Rattle.std.proofs.lemmas.List.{get_or-map, length-map, length-set, map-set}
 use Rattle.jb_slice_file.proofs.Handed.{handed_on}
-use Rattle.jb_slice_run.specs.Held.{news_grown, news_in, no_news}
-use Rattle.jb_slice_run.specs.Strings.{News}
+use Rattle.jb_slice_run.specs.Held.{new_output_grown, new_output_in, no_new_output}
+use Rattle.jb_slice_run.specs.Strings.{NewOutput}
 use Rattle.jb_slice_run.proofs.Grown.{as_many, list_at, none_grown, one_partition, results_at, skips_at, small_at, stop_at}
 use Rattle.jb_slice_run.proofs.Why.{why_not}
 use Rattle.jb_slice_run.proofs.intervals.grow_all.Goals as goal
 
 pub loop-index-init : goal.loop-index-init
-loop-index-init c = record { number = refl; grown = λ limits new small is. sym (none_grown (map news_in c.args.partitions.now)) }
+loop-index-init c = record { number = refl; grown = λ limits new small is. sym (none_grown (map new_output_in c.args.partitions.now)) }
 
 pub loop-index-preserved : goal.loop-index-preserved
 loop-index-preserved c =
     let ps = c.loop-index.partitions in
     let i = c.loop-index.index in
-    let bs = map news_in c.args.partitions.now in
+    let bs = map new_output_in c.args.partitions.now in
     let p = c.index-partitions-index.result in
     let here : i < length ps = subst (λ n. i < n) (sym c.loop-index.invariant.number) c.loop-index-test.true in
     record {
-      number = length-set ps i c.grow.new.news ∙ c.loop-index.invariant.number;
+      number = length-set ps i c.grow.new.new_output ∙ c.loop-index.invariant.number;
       grown = λ limits new small is.
           let count = as_many c.args.lists.now limits new is (length c.args.partitions.now) c.requires in
           let within : i < length new = subst (λ n. i < n) (sym count) c.loop-index-test.true in
-          let below : i < length bs = subst (λ n. i < n) (sym (length-map c.args.partitions.now news_in)) c.loop-index-test.true in
+          let below : i < length bs = subst (λ n. i < n) (sym (length-map c.args.partitions.now new_output_in)) c.loop-index-test.true in
           let results = list_at c.args.lists.now limits new is i 0 within (omega arith) c.index-lists-index.result c.index-lists-index.is ∙ results_at new i within in
           let skips = list_at c.args.lists.now limits new is i 1 within (omega arith) c.index-lists-index-in-loop-index.result c.index-lists-index-in-loop-index.is ∙ skips_at new i within in
           let stop = list_at c.args.lists.now limits new is i 2 within (omega arith) c.index-lists-index-in-loop-index-2.result c.index-lists-index-in-loop-index-2.is ∙ stop_at new i within in
-          map-set news_in ps i c.grow.new.news
-          ∙ one_partition bs new i (map news_in ps) (news_in (get_or ps i p)) (news_in c.grow.new.news) (c.loop-index.invariant.grown limits new small is) within below
-          (sym (get_or-map news_in ps i p no_news here))
-          (c.in_ok-grow.ensures.read (get_or new i no_news) (small_at new i small within) results skips stop);
+          map-set new_output_in ps i c.grow.new.new_output
+          ∙ one_partition bs new i (map new_output_in ps) (new_output_in (get_or ps i p)) (new_output_in c.grow.new.new_output) (c.loop-index.invariant.grown limits new small is) within below
+          (sym (get_or-map new_output_in ps i p no_new_output here))
+          (c.in_ok-grow.ensures.read (get_or new i no_new_output) (small_at new i small within) results skips stop);
     }
 
 pub returns-in_err-grow-clause-why : goal.returns-in_err-grow-clause-why
@@ -43,11 +43,11 @@ returns-in_err-grow-clause-why c =
     let within : i < length new = subst (λ n. i < n) (sym count) c.loop-index-test.true in
     let skips = list_at c.args.lists.now limits new is i 1 within (omega arith) c.index-lists-index-in-loop-index.result c.index-lists-index-in-loop-index.is ∙ skips_at new i within in
     let stop = list_at c.args.lists.now limits new is i 2 within (omega arith) c.index-lists-index-in-loop-index-2.result c.index-lists-index-in-loop-index-2.is ∙ stop_at new i within in
-    none (get_or new i no_news) skips stop)
+    none (get_or new i no_new_output) skips stop)
     c.in_err-grow.ensures.why)
 
 pub returns-clause-read : goal.returns-clause-read
 returns-clause-read c limits new small is =
     let count = as_many c.args.lists.now limits new is (length c.args.partitions.now) c.requires in
     let past : length new ≤ c.loop-index.index = subst (λ n. n ≤ c.loop-index.index) (sym count) c.loop-index-test.false in
-    c.loop-index.invariant.grown limits new small is ∙ ap (λ (ns : List News). news_grown (map news_in c.args.partitions.now) ns) (take_all c.loop-index.index new past)
+    c.loop-index.invariant.grown limits new small is ∙ ap (λ (ns : List NewOutput). new_output_grown (map new_output_in c.args.partitions.now) ns) (take_all c.loop-index.index new past)

@@ -2,8 +2,8 @@ use Rattle.std.proofs.Common.{◌≡◌, ◌≤◌, length, map, replicate, take
 use Rattle.std.proofs.lemmas.List.{length-map, length-replicate}
 use Rattle.jb_slice_file.proofs.Handed.{handed_on}
 use Rattle.jb_slices.specs.Checkpoint.{GoesOn}
-use Rattle.jb_slice_run.specs.Held.{limits_in, limits_led, news_grown, news_in, news_led, no_news}
-use Rattle.jb_slice_run.specs.Strings.{all_news}
+use Rattle.jb_slice_run.specs.Held.{limits_in, limits_led, new_output_grown, new_output_in, new_output_led, no_new_output}
+use Rattle.jb_slice_run.specs.Strings.{all_new_output}
 use Rattle.jb_slice_run.proofs.Bytes.{written_back}
 use Rattle.jb_slice_run.proofs.Grown.{kept_length, led_more, limits_more, nth_interval}
 use Rattle.jb_slice_run.proofs.Why.{why_not}
@@ -11,9 +11,9 @@ use Rattle.jb_slice_run.proofs.intervals.read_slice.Goals as goal
 
 pub loop-checkpoint-init : goal.loop-checkpoint-init
 loop-checkpoint-init c = record {
-  number = sym (length-map c.in_ok-partitions.partitions.items news_in) ∙ ap length c.in_ok-partitions.ensures ∙ length-replicate c.args.count no_news;
+  number = sym (length-map c.in_ok-partitions.partitions.items new_output_in) ∙ ap length c.in_ok-partitions.ensures ∙ length-replicate c.args.count no_new_output;
   limits = λ cs so all. refl;
-  news = λ cs so all. c.in_ok-partitions.ensures;
+  new_output = λ cs so all. c.in_ok-partitions.ensures;
 }
 
 pub read_interval-requires : goal.read_interval-requires
@@ -33,12 +33,12 @@ loop-checkpoint-preserved c =
           let at = nth_interval c.args.count cs later i item so all c.loop-checkpoint-test.true c.checkpoint-item.is in
           (c.in_ok-last.ensures.read at.0 at.1 at.2).0
           ∙ sym (ap (limits_led (limits_in c.args.limits)) at.3 ∙ limits_more (limits_in c.args.limits) (take i cs) (GoesOn at.0));
-      news = λ cs so all.
+      new_output = λ cs so all.
           let at = nth_interval c.args.count cs later i item so all c.loop-checkpoint-test.true c.checkpoint-item.is in
-          let none = replicate c.args.count no_news in
-          ap (map news_in) back ∙ (c.in_ok-last.ensures.read at.0 at.1 at.2).1
-          ∙ ap (λ ns. news_grown ns (all_news at.0.partitions)) (ap (map news_in) c.deref_mut.ensures.value ∙ c.loop-checkpoint.invariant.news cs so all)
-          ∙ sym (ap (news_led none) at.3 ∙ led_more none (take i cs) (GoesOn at.0));
+          let none = replicate c.args.count no_new_output in
+          ap (map new_output_in) back ∙ (c.in_ok-last.ensures.read at.0 at.1 at.2).1
+          ∙ ap (λ ns. new_output_grown ns (all_new_output at.0.partitions)) (ap (map new_output_in) c.deref_mut.ensures.value ∙ c.loop-checkpoint.invariant.new_output cs so all)
+          ∙ sym (ap (new_output_led none) at.3 ∙ led_more none (take i cs) (GoesOn at.0));
     }
 
 pub returns-in_err-last-clause-why : goal.returns-in_err-last-clause-why
@@ -57,5 +57,5 @@ returns-clause-read c cs so all =
     let past : length cs ≤ i = subst (λ n. n ≤ i) (sym (kept_length cs c.args.later.now so)) c.loop-checkpoint-test.false in
     record {
       limits = c.loop-checkpoint.invariant.limits cs so all ∙ ap (limits_led (limits_in c.args.limits)) (take_all i cs past);
-      news = c.loop-checkpoint.invariant.news cs so all ∙ ap (news_led (replicate c.args.count no_news)) (take_all i cs past);
+      new_output = c.loop-checkpoint.invariant.new_output cs so all ∙ ap (new_output_led (replicate c.args.count no_new_output)) (take_all i cs past);
     }

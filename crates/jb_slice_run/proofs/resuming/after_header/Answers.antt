@@ -13,9 +13,9 @@ pub returns-clause-stands : goal.returns-clause-stands
 returns-clause-stands g c functions number first h all alone is began stamp keeps =
     let f = g.F.RowFunction.answer (arc_value c.args.function.now) in
     let j = c.args.job.now in
-    let told = c.checkpoints_are_told.ensures in
+    let agrees = c.bytes_identify_checkpoints.ensures in
     ok-all c.begun.result _ _ _ _ _
-    (λ place runs empty stage rows. stands-begun told.header told.each (job_in j) functions f (limits_in j.limits) (limits_in c.args.limits) number c.args.items.now first h place.stage _ place.rows.items all alone is began stamp keeps
+    (λ place runs empty stage rows. stands-begun agrees.header agrees.each (job_in j) functions f (limits_in j.limits) (limits_in c.args.limits) number c.args.items.now first h place.stage _ place.rows.items all alone is began stamp keeps
     c.in_ok-refuse_lowered.ensures runs empty stage rows) c.begun.ensures.runs c.begun.ensures.empty c.begun.ensures.stage c.begun.ensures.rows
 
 pub returns-clause-why : goal.returns-clause-why
@@ -27,6 +27,6 @@ pub returns-in_err-refuse_lowered-clause-why : goal.returns-in_err-refuse_lowere
 returns-in_err-refuse_lowered-clause-why g c number first began =
     let f = g.F.RowFunction.answer (arc_value c.args.function.now) in
     let e = c.in_err-refuse_lowered.field-0.0 in
-    let told = c.checkpoints_are_told.ensures in
+    let agrees = c.bytes_identify_checkpoints.ensures in
     handed_on c.from_residual.result (Checkpoints e) (IsResumeCause c.args.job.now f number c.args.items.now (first ∷ [])) c.from_residual.ensures.1
-    (lowered-first c.args.job.now f number c.args.items.now told.header told.one first (limits_in c.args.limits) began e c.in_err-refuse_lowered.ensures)
+    (lowered-first c.args.job.now f number c.args.items.now agrees.header agrees.one first (limits_in c.args.limits) began e c.in_err-refuse_lowered.ensures)

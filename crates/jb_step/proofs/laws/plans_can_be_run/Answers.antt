@@ -5,13 +5,13 @@ use Rattle.jb_step.proofs.beginning.Starting.{begins_with_rows}
 use Rattle.jb_step.proofs.laws.plans_can_be_run.Goals as goal
 
 pub returns-clause-next : goal.returns-clause-next
-returns-clause-next c = next_can_run c.laws_below.ensures.chunks
+returns-clause-next c = next_can_run c.lower_laws.ensures.chunks
 
 pub returns-clause-order : goal.returns-clause-order
-returns-clause-order c = runs_in_order c.laws_below.ensures.chunks
+returns-clause-order c = runs_in_order c.lower_laws.ensures.chunks
 
 pub returns-clause-all : goal.returns-clause-all
-returns-clause-all c = runs_all c.laws_below.ensures.chunks
+returns-clause-all c = runs_all c.lower_laws.ensures.chunks
 
 pub returns-clause-tasks : goal.returns-clause-tasks
 returns-clause-tasks c = begins_with_tasks
@@ -23,10 +23,10 @@ pub returns-clause-stay : goal.returns-clause-stay
 returns-clause-stay c = partitions_stay
 
 pub returns-clause-whole : goal.returns-clause-whole
-returns-clause-whole c = ends_whole c.laws_below.ensures.chunks
+returns-clause-whole c = ends_whole c.lower_laws.ensures.chunks
 
 pub returns-clause-rows : goal.returns-clause-rows
 returns-clause-rows c = begins_with_rows
 
 pub returns-clause-blocks : goal.returns-clause-blocks
-returns-clause-blocks c = chunks_are_blocks c.laws_below.ensures.chunks
+returns-clause-blocks c = chunks_are_blocks c.lower_laws.ensures.chunks

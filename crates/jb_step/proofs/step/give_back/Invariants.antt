@@ -7,5 +7,5 @@ use Rattle.jb_step.proofs.step.give_back.Given as goal
 
 abbrev pub invariant-loop-place : goal.invariant-loop-place
 invariant-loop-place g l =
-    given_back g.T.Artifacts.Meaning.meaning l.left.items ++ artifacts_of (held_in (table_in g.T.PartitionTask.standing (into_iter_items l.place-iterator)))
-    ≡ artifacts_of (held_in (table_in g.T.PartitionTask.standing l.fn.held.items))
+    given_back g.T.Artifacts.Meaning.meaning l.left.items ++ artifacts_of (held_in (table_in g.T.PartitionTask.task_state (into_iter_items l.place-iterator)))
+    ≡ artifacts_of (held_in (table_in g.T.PartitionTask.task_state l.fn.held.items))

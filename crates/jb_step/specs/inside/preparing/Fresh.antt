@@ -10,7 +10,7 @@ use Rattle.jb_collect.specs.declared.calls.ReducerCall.{ReducerCall}
 use Rattle.jb_collect.specs.declared.calls.ReducerCall.TheVariants.{Rollback, After}
 use Rattle.jb_collect.specs.declared.calls.PartitionStatus.TheVariants as status
 use Rattle.jb_collect.specs.ReducerCalls.{rolled_back}
-use Rattle.jb_collect.specs.Taken.{Taken, calls_of, faulted, since}
+use Rattle.jb_collect.specs.AnsweredCalls.{AnsweredCall, calls_of, faulted, since}
 use Rattle.jb_saved.specs.declared.place.SavedPlace.{SavedPlace}
 use Rattle.jb_saved.specs.SavedRows.{SavedRows}
 use Rattle.jb_step.specs.declared.error.StepError.{StepError}
@@ -32,20 +32,19 @@ abbrev pub opened_setup : CheckedPlan → StepRecord → Option SavedRows → Se
 opened_setup plan step saved =
     let from = gone_on plan.replace saved in setup_of_rows (opening_rows plan.ranges from) plan step (is_none from)
 
--- the first fault of the saved rows for this step; memory runs out only where there is none
+-- the first fault of the saved rows for this step; memory runs out only if they have no fault
 abbrev pub RefusesToGoOn : StepError → List SavedPlace → Type 0
 RefusesToGoOn (Saved place) faults = slice_get faults 0 ≡ Some place
 RefusesToGoOn Memory faults = faults ≡ []
 RefusesToGoOn _ faults = ⊥
 
--- the saved rows are refused; where memory lacked, nothing is said
+-- the saved rows are refused; if memory ran out, nothing is claimed
 abbrev pub IsUnopened : StepRecord → (records : ℕ) → (replace : Bool) → Option SavedRows → StepError → Type 0
 IsUnopened step records replace saved (Saved place) = slice_get (saved_faults step records replace saved) 0 ≡ Some place
 IsUnopened step records replace saved Memory = Unit {0}
 IsUnopened step records replace saved _ = ⊥
 
--- there is nothing to begin: the mapper's fault, the first of its plan, or the first of the saved rows; where memory lacked,
--- nothing is said
+-- Nothing can be prepared: by the mapper's fault, the first of its plan, or the first of the saved rows. If memory ran out, nothing is claimed.
 abbrev pub IsUnplanned : StepRecord → ℕ → Result PartitionPlan ClassId → Option SavedRows → StepError → Type 0
 IsUnplanned step records mapped saved (Mapper class) = mapped ≡ Err class
 IsUnplanned step records mapped saved (Plan fault) = (plan : PartitionPlan) × (mapped ≡ Ok plan) × IsFirst fault (plan_errors records plan)
@@ -54,9 +53,8 @@ IsUnplanned step records mapped saved (Saved place) =
 IsUnplanned step records mapped saved Memory = Unit {0}
 IsUnplanned step records mapped saved _ = ⊥
 
--- the rollback of discarded results failed: `after` was called, and nothing more; where memory lacked, some of the two were
--- taken
-abbrev pub IsDiscardRefused : StepError → (before after : List (Taken ReducerCall)) → Type 0
+-- The rollback of discarded results failed: `after` was called, and nothing more. If memory ran out, some of the two calls were taken.
+abbrev pub IsDiscardRefused : StepError → (before after : List (AnsweredCall ReducerCall)) → Type 0
 IsDiscardRefused (Reducer class) before after = (fault : Option ClassId) × (after ≡ before ++ faulted Rollback class ∷ record { call = After status.Rollback; fault = fault } ∷ [])
 IsDiscardRefused Memory before after = AreSome (calls_of (since before after)) rolled_back
 IsDiscardRefused _ before after = ⊥

@@ -1,4 +1,4 @@
--- What the fields of prepared rows stand for.
+-- What the fields of prepared rows mean.
 use Rattle.std.specs.Prelude.{◌≡◌, ℕ, ◌≤◌, ◌⊎◌, List, length, map, slice_get, Some}
 use Rattle.jb_base.specs.Limits.{max_partitions}
 use Rattle.jb_plan.specs.Ranges.{AreDisjoint}

@@ -6,7 +6,7 @@ use Rattle.jb_rules.specs.declared.row.RowState.TheVariants.{Waiting, Finished}
 use Rattle.jb_rules.specs.Sound.{IsSoundRow}
 use Rattle.jb_rules.specs.States.{is_finished}
 use Rattle.jb_artifacts.specs.Meaning.{ArtifactsMeaning}
-use Rattle.jb_chunk.specs.Standing.{TaskState, started}
+use Rattle.jb_chunk.specs.TaskState.{TaskState, started}
 use Rattle.jb_step.specs.preparing.Setup.{Setup}
 
 -- the unfinished ones of rows that are numbered from `first` on

@@ -3,13 +3,13 @@ use Rattle.std.specs.Prelude.{ℕ, ◌+◌, ◌≡◌, Bool, true, false, List, 
 use Rattle.std.specs.List.{AllByRecursion}
 use Rattle.jb_base.specs.Pairwise.{Pairwise}
 use Rattle.jb_cert.specs.Lawful.{Pair}
-use Rattle.jb_chunk.specs.Standing.{TaskState}
+use Rattle.jb_chunk.specs.TaskState.{TaskState}
 use Rattle.jb_chunk.specs.declared.outcome.Done.{Done}
 use Rattle.jb_chunk.specs.declared.outcome.Outcome.{Outcome}
 use Rattle.jb_chunk.specs.declared.outcome.Outcome.TheVariants.{NoMemory}
 use Rattle.jb_collect.specs.Heard.{heard_in}
 use Rattle.jb_collect.specs.declared.calls.AnalyzerCall.{AnalyzerCall}
-use Rattle.jb_collect.specs.Taken.{Taken}
+use Rattle.jb_collect.specs.AnsweredCalls.{AnsweredCall}
 use Rattle.jb_cert.specs.declared.notes.PlanNote.{PlanNote}
 use Rattle.jb_step.specs.Alone.{AreReady}
 use Rattle.jb_step.specs.rounds.Rounds.{after_rounds, attempts_of, breaks_in}
@@ -30,7 +30,7 @@ partitions_of ts = map (λ t. t.partition) ts
 
 -- the attempts of these tasks, in their order
 abbrev pub AreDonesOf : {T : Type 0} → (T → TaskState) → List T → List (Done T) → Type 0
-AreDonesOf standing = Pairwise (IsAttemptOf standing)
+AreDonesOf task_state = Pairwise (IsAttemptOf task_state)
 
 abbrev pub had_memory : Outcome → Bool
 had_memory NoMemory = false
@@ -49,21 +49,21 @@ pub record Progress : Type 0 where
 
 -- the places of the tasks, as a table
 abbrev pub table_of : {T : Type 0} → (T → TaskState) → Ran T → Table
-table_of standing ran = table_in standing ran.held.items
+table_of task_state ran = table_in task_state ran.held.items
 
-abbrev pub progress : {T : Type 0} → (T → TaskState) → List (Taken AnalyzerCall) → Ran T → Progress
-progress standing calls ran = record { moment = moment calls ran.fault; table = table_of standing ran; rounds = ran.rounds; attempts = ran.attempts; notes = ran.notes.items }
+abbrev pub progress : {T : Type 0} → (T → TaskState) → List (AnsweredCall AnalyzerCall) → Ran T → Progress
+progress task_state calls ran = record { moment = moment calls ran.fault; table = table_of task_state ran; rounds = ran.rounds; attempts = ran.attempts; notes = ran.notes.items }
 
--- what rounds left, that were run one after another: the table, the numbers of rounds and attempts, and what the analyzer was
--- told of each attempt, unless it had answered a fault before
+-- What rounds left that were run one after another: the table, the numbers of rounds and attempts, and the analyzer's calls. It was called
+-- for each attempt, unless it had answered a fault before.
 pub record AreLeft (rounds : List (List Pair)) (now later : Progress) : Type 0 where
   pub table_is : later.table ≡ after_rounds rounds now.table
   pub rounds_are : later.rounds ≡ now.rounds + length rounds
   pub attempts_are : later.attempts ≡ now.attempts + length (attempts_of rounds now.table)
   pub heard_is : HearsMore now.moment (heard_in (attempts_of rounds now.table)) later.moment
 
--- one round: an attempt for each task of the set's partitions, and for no other; the tasks are ready for the next one; some
--- partition was rolled back or failed, or none; and no plan was noted
+-- One round: an attempt for each task of the set's partitions, and for no other. The tasks are ready for the next round. Some partition was
+-- rolled back or failed, or none. No plan was noted.
 pub record IsRound (set : List Pair) (broke : Bool) (now later : Progress) : Type 0 where
   pub left : AreLeft (set ∷ []) now later
   pub ready : AreReady (held_in later.table)

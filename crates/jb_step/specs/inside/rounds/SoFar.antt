@@ -29,12 +29,12 @@ plan_run_of load ran = record {
 abbrev pub AreWithin : Option ℕ → ℕ → Type 0
 AreWithin limit rounds = MatchOption limit (Unit {0}) (λ l. rounds ≤ l)
 
--- before its first round, where the analyzer heard what it is told at first
+-- before its first round, after the analyzer's first calls
 abbrev pub at_first : Moment → Table → Progress
 at_first moment start = record { moment = moment; table = start; rounds = 0; attempts = 0; notes = [] }
 
--- Run of a step so far, from where it stood at first: some plans were run, one after another, each a least one for what was
--- left; these are their notes, and what their rounds left. All of them are over, unless the step stops.
+-- Run of a step so far, from the state `first`: some plans were run, one after another, each a least one for what was left. These are their
+-- notes, and what their rounds left. All of them are over, unless the step stops.
 pub record IsRunOfStepSoFar (s : Setup) (limit : Option ℕ) (stopped : Bool) (first now : Progress) : Type 0 where
   pub plans : List PlanRun
   pub run : ArePlanRuns s first.table plans

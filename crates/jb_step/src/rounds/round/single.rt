@@ -2,14 +2,14 @@
 
 ghost use Rattle.std.specs.Prelude.{◌∷◌, [], IfOk};
 ghost use Rattle.jb_cert.specs.Plans.{slot_pair};
-ghost use Rattle.jb_collect.specs.Taken.{Grew};
+ghost use Rattle.jb_collect.specs.AnsweredCalls.{Grew};
 ghost use Rattle.jb_step.specs.rounds.Rounds.{CanRun};
 ghost use Rattle.jb_step.specs.inside.rounds.Round.{IsRound, progress, table_of};
 ghost use Rattle.jb_step.specs.Tables.{ArePlaced, held_in};
 ghost use Rattle.jb_step.specs.Alone.{AreReady};
 
 use crate::callbacks::tell::tell_one;
-use crate::rounds::error::RunError;
+use crate::rounds::error::StepRunError;
 use crate::rounds::ran::Ran;
 use crate::rounds::round::{is_committed, put_task, sum, take_task};
 use crate::rounds::runner::{RoundRunner, StepGate, StepLedger, StepTask, StepThreads};
@@ -27,11 +27,11 @@ impl<L: StepLedger, G: StepGate, R: StepThreads> RoundRunner<'_, L, G, R> {
         ran: &mut Ran<T>,
         slot: Slot,
         analyzer: &mut dyn Analyzer,
-    ) -> Result<bool, RunError>
-        requires placed { ArePlaced 0 (table_of T.standing ran.old) }
-        requires ready { AreReady (held_in (table_of T.standing ran.old)) }
-        requires can_run { CanRun (slot_pair slot ∷ []) (table_of T.standing ran.old) }
-        ensures round { IfOk result (λ broke. IsRound (slot_pair slot ∷ []) broke (progress T.standing (analyzed analyzer.old) ran.old) (progress T.standing (analyzed analyzer.new) ran.new)) }
+    ) -> Result<bool, StepRunError>
+        requires placed { ArePlaced 0 (table_of T.task_state ran.old) }
+        requires ready { AreReady (held_in (table_of T.task_state ran.old)) }
+        requires can_run { CanRun (slot_pair slot ∷ []) (table_of T.task_state ran.old) }
+        ensures round { IfOk result (λ broke. IsRound (slot_pair slot ∷ []) broke (progress T.task_state (analyzed analyzer.old) ran.old) (progress T.task_state (analyzed analyzer.new) ran.new)) }
         ensures grew { Grew (analyzed analyzer.old) (analyzed analyzer.new) }
     {
         let Some(task) = take_task(&mut ran.held, &slot) else {

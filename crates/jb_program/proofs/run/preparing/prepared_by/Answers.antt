@@ -2,7 +2,7 @@ use Rattle.std.proofs.Common.{List, map, refl, ap, sym, ◌∙◌}
 use borrow.Pointer.Hide.{carried_sameᵐ}
 use denote.Param.Object.{read_made}
 use Rattle.jb_collect.specs.declared.calls.ReducerCall.{ReducerCall}
-use Rattle.jb_collect.specs.Taken.{Taken, calls_of, well}
+use Rattle.jb_collect.specs.AnsweredCalls.{AnsweredCall, calls_of, well}
 use Rattle.jb_collect.specs.ReducerCalls.{calls_before}
 use Rattle.jb_step.specs.preparing.Prepare.{overrides_by}
 use Rattle.jb_program.proofs.Callbacks.{well-calls}
@@ -14,8 +14,8 @@ pub returns-in-Ok-clause-begun : goal.returns-in-Ok-clause-begun
 returns-in-Ok-clause-begun g c =
     begun _ _ c.args.reducer.now c.reducer-2-1.given.0 _ c.in-Ok.ensures.grew
     (ap calls_of c.in-Ok.ensures.calls ∙ well-calls _ ∙ ap (λ mapped. calls_before (overrides_by mapped c.args.saved)) c.requires.mapped)
-    (carried_sameᵐ _ _ own.entry-2-1 (own.own-2.entry own.at-2-1) own.same-2-1 (List (Taken ReducerCall)) (λ j y. j.1.reduced y.now) _)
-    (read_made own.own-2 own.entry-2-1 own.at-2-1 own.same-2-1 (List (Taken ReducerCall)) (λ j y. j.1.reduced y) own.at-2-1 c.prepare.new.reducer c.reducer-1.given.0.now c.reducer-1.given.2
+    (carried_sameᵐ _ _ own.entry-2-1 (own.own-2.entry own.at-2-1) own.same-2-1 (List (AnsweredCall ReducerCall)) (λ j y. j.1.reduced y.now) _)
+    (read_made own.own-2 own.entry-2-1 own.at-2-1 own.same-2-1 (List (AnsweredCall ReducerCall)) (λ j y. j.1.reduced y) own.at-2-1 c.prepare.new.reducer c.reducer-1.given.0.now c.reducer-1.given.2
     ∙ sym (ap (map well) (c.reducer-2-1.given.1 refl)))
 
 pub unreachable-requires : goal.unreachable-requires

@@ -1,7 +1,7 @@
 use Rattle.std.proofs.Common.{◌≡◌, rules, IfErr, IfOk, Some, sym, subst}
 use Rattle.std.specs.Io.KnownBytes.{Appends}
 use Rattle.jb_texts.specs.Front.{AppendsFront}
-use Rattle.jb_program.specs.declared.streams.failure.Failure.TheVariants.{Stream}
+use Rattle.jb_program.specs.declared.streams.error.ProgramError.TheVariants.{Stream}
 use Rattle.jb_program.specs.declared.words.request.Word.TheVariants.{Run, Restart, Plan, Check}
 use Rattle.jb_program.specs.Help.{check_help, help_text, plan_help, program_help, restart_help, run_help}
 use Rattle.jb_program.proofs.words.help.write_help.Goals as goal

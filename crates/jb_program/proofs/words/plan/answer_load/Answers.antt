@@ -5,7 +5,7 @@ use Rattle.jb_cert.specs.Certificates.{Holds, bound_certificate}
 use Rattle.jb_cert.specs.Load.{Load, mcnaughton}
 use Rattle.jb_texts.specs.Front.{AppendsFront}
 use Rattle.jb_texts.specs.PlanText.{text_of_load}
-use Rattle.jb_program.specs.declared.streams.failure.Failure.TheVariants.{Memory, Stream}
+use Rattle.jb_program.specs.declared.streams.error.ProgramError.TheVariants.{Memory, Stream}
 use Rattle.jb_program.specs.PlanWord.{IsPlannedFor}
 use Rattle.jb_program.proofs.words.plan.answer_load.Goals as goal
 
@@ -28,6 +28,6 @@ returns-in_err-write_plan-clause-err g c =
     let old = g.W.Write.contents c.args.writer.now in
     let new = g.W.Write.contents c.write_plan.new.writer in
     let P : Load → Type 0 = λ one. AppendsFront old new (text_of_load one) in
-    let told : c.from_residual-in_err-write_plan.result ≡ Err Stream = search rules in
-    subst (λ r. IfErr r (λ e. (e ≡ Memory × Keeps old new) ⊎ (e ≡ Stream × AppendsFront old new (text_of_load c.args.load.now)))) (sym told)
+    let reported : c.from_residual-in_err-write_plan.result ≡ Err Stream = search rules in
+    subst (λ r. IfErr r (λ e. (e ≡ Memory × Keeps old new) ⊎ (e ≡ Stream × AppendsFront old new (text_of_load c.args.load.now)))) (sym reported)
     (inr (refl, subst P asked c.in_err-write_plan.ensures.front))

@@ -2,7 +2,7 @@ use Rattle.std.proofs.Common.{◌≡◌, IfSome}
 use Rattle.jb_job.specs.declared.error.JobError.{JobError}
 use Rattle.jb_plan.specs.declared.fault.PlanError.{PlanError}
 use Rattle.jb_saved.specs.declared.place.SavedPlace.{SavedPlace}
-use Rattle.jb_program.specs.declared.streams.failure.Failure.TheVariants as failure
+use Rattle.jb_program.specs.declared.streams.error.ProgramError.TheVariants as failure
 use Rattle.jb_documents.specs.RestartDocument.{IsRefusedRestart}
 use Rattle.jb_documents.specs.declared.restart.fault.RestartFault.TheVariants as restart_fault
 use Rattle.jb_program.specs.Refusals.{IsRunFailure}

@@ -1,7 +1,7 @@
 use Rattle.std.proofs.Common.{Ok, length, subst}
 use Rattle.jb_step.specs.preparing.Prepare.{IsPreparation}
 use Rattle.jb_records.specs.Made.{even_partitions, step_record}
-use Rattle.jb_records.specs.Steps.{BeginsAnew}
+use Rattle.jb_records.specs.Steps.{StartsFresh}
 use Rattle.jb_records.proofs.Counting.{anew-counted}
 use Rattle.jb_records.proofs.Following.{anew-follow, begun-ranges}
 use Rattle.jb_records.proofs.Resuming.{going-on}
@@ -14,7 +14,7 @@ returns-clause-new c none f =
     let prepared = c.in_ok-prepared.prepared in
     let anew = c.in_ok-prepared.ensures.new none in
     record {
-      so_far = begun-anew c.steps_keep_results.ensures.begun f c.args.records.now prepared _ (subst (λ n. BeginsAnew n prepared) c.len-count.ensures anew) c.in_ok-results.ensures.numbered;
+      so_far = begun-anew c.steps_keep_results.ensures.begun f c.args.records.now prepared _ (subst (λ n. StartsFresh n prepared) c.len-count.ensures anew) c.in_ok-results.ensures.numbered;
       counted = anew-counted c.skips_are_counted.ensures.begun f c.args.records.now _ prepared anew;
       follows = anew-follow c.rules_are_kept.ensures.begun f prepared.rules c.args.records.now _ prepared anew;
       ranges = begun-ranges c.args.step.now _ c.args.saved prepared none (subst (λ n. IsPreparation (step_record c.args.step.now) n (Ok (even_partitions c.args.step.now n)) c.args.saved prepared) c.len-count.ensures c.in_ok-prepared.ensures.prepared);

@@ -1,7 +1,7 @@
 use Rattle.std.proofs.Common.{Ok, Some, refl, rules, subst, sym}
 use Rattle.jb_step.specs.preparing.Prepare.{IsPreparation}
 use Rattle.jb_records.specs.Made.{even_partitions, step_record}
-use Rattle.jb_records.specs.Shares.{AreNumbered}
+use Rattle.jb_records.specs.PartitionResults.{AreNumbered}
 use Rattle.jb_records.proofs.Beginning.{numbered-again}
 use Rattle.jb_records.proofs.job.RecordsJob.behind.Goals as goal
 

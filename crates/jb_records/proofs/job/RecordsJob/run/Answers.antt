@@ -1,5 +1,5 @@
 use Rattle.std.proofs.Common.{rules, ◌≡◌, ◌∙◌, ap, refl, sym, subst, Ok, Err}
-use Rattle.jb_records.specs.Shares.{IsSoFar}
+use Rattle.jb_records.specs.PartitionResults.{IsSoFar}
 use Rattle.jb_records.proofs.Answered.{err-of, ok-of}
 use Rattle.jb_records.proofs.Counting.{led-counted}
 use Rattle.jb_records.proofs.Following.{ends-by}

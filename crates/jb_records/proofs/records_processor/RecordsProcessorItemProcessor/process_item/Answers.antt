@@ -15,8 +15,8 @@ returns-in_ok-item-in-Ok-true-clause-answered g c =
     let n = c.args.number in
     let records = arc_value self.records in
     let record_is = c.record_of.ensures ∙ ap (λ rs. record_of self.first rs n) c.deref.ensures in
-    let told = c.in_ok-outcome.ensures ∙ (λ i. (F (c.deref-2.ensures i)).answer ((c.of-record.ensures ∙ ap fields_in record_is) i)) in
-    let all = answers (F (arc_value self.function)) self.first records n c.in_ok-outcome.outcome c.process.new.built (plans_of self.tries) (plans_of c.settled.new.tries) told c.in-Ok-true.field-0 c.in-Ok-true.ensures.answered in
+    let written_before = c.in_ok-outcome.ensures ∙ (λ i. (F (c.deref-2.ensures i)).answer ((c.of-record.ensures ∙ ap fields_in record_is) i)) in
+    let all = answers (F (arc_value self.function)) self.first records n c.in_ok-outcome.outcome c.process.new.built (plans_of self.tries) (plans_of c.settled.new.tries) written_before c.in-Ok-true.field-0 c.in-Ok-true.ensures.answered in
     let given = ap (λ b. given_by b c.process.new.built) c.in-Ok-true.field-0-test in
     (all.0, ap Some (c.in_ok-item-in-Ok-true.ensures ∙ c.as_bytes.ensures.packed) ∙ sym given ∙ all.1, all.2)
 
@@ -27,8 +27,8 @@ returns-in-Ok-false-clause-answered g c =
     let n = c.args.number in
     let records = arc_value self.records in
     let record_is = c.record_of.ensures ∙ ap (λ rs. record_of self.first rs n) c.deref.ensures in
-    let told = c.in_ok-outcome.ensures ∙ (λ i. (F (c.deref-2.ensures i)).answer ((c.of-record.ensures ∙ ap fields_in record_is) i)) in
-    let all = answers (F (arc_value self.function)) self.first records n c.in_ok-outcome.outcome c.process.new.built (plans_of self.tries) (plans_of c.settled.new.tries) told c.in-Ok-false.field-0 c.in-Ok-false.ensures.answered in
+    let written_before = c.in_ok-outcome.ensures ∙ (λ i. (F (c.deref-2.ensures i)).answer ((c.of-record.ensures ∙ ap fields_in record_is) i)) in
+    let all = answers (F (arc_value self.function)) self.first records n c.in_ok-outcome.outcome c.process.new.built (plans_of self.tries) (plans_of c.settled.new.tries) written_before c.in-Ok-false.field-0 c.in-Ok-false.ensures.answered in
     let given = ap (λ b. given_by b c.process.new.built) c.in-Ok-false.field-0-test in
     (all.0, sym given ∙ all.1, all.2)
 
@@ -39,8 +39,8 @@ returns-in-Err-clause-faulted g c =
     let n = c.args.number in
     let records = arc_value self.records in
     let record_is = c.record_of.ensures ∙ ap (λ rs. record_of self.first rs n) c.deref.ensures in
-    let told = c.in_ok-outcome.ensures ∙ (λ i. (F (c.deref-2.ensures i)).answer ((c.of-record.ensures ∙ ap fields_in record_is) i)) in
-    fault-weaker Bool (Option Item) _ _ c.in-Err.error (fails (F (arc_value self.function)) self.first records n c.in_ok-outcome.outcome c.process.new.built (plans_of self.tries) (plans_of c.settled.new.tries) told) c.in-Err.ensures.faulted
+    let written_before = c.in_ok-outcome.ensures ∙ (λ i. (F (c.deref-2.ensures i)).answer ((c.of-record.ensures ∙ ap fields_in record_is) i)) in
+    fault-weaker Bool (Option Item) _ _ c.in-Err.error (fails (F (arc_value self.function)) self.first records n c.in_ok-outcome.outcome c.process.new.built (plans_of self.tries) (plans_of c.settled.new.tries) written_before) c.in-Err.ensures.faulted
 
 pub returns-in_err-item-in-Ok-true-clause-no_memory : goal.returns-in_err-item-in-Ok-true-clause-no_memory
 returns-in_err-item-in-Ok-true-clause-no_memory g c =

@@ -16,8 +16,8 @@ returns-in_ok-push-in-Ok-true-clause-answered g c =
     let n = c.args.number in
     let records = arc_value self.records in
     let record_is = c.record_of.ensures ∙ ap (λ rs. record_of self.first rs n) c.deref.ensures in
-    let told = c.in_ok-outcome.ensures ∙ (λ i. (F (c.deref-2.ensures i)).answer ((c.of-record.ensures ∙ ap fields_in record_is) i)) in
-    let all = answers (F (arc_value self.function)) self.first records n c.in_ok-outcome.outcome c.process.new.built (plans_of self.tries) (plans_of c.settled.new.tries) told c.in-Ok-true.field-0 c.in-Ok-true.ensures.answered in
+    let written_before = c.in_ok-outcome.ensures ∙ (λ i. (F (c.deref-2.ensures i)).answer ((c.of-record.ensures ∙ ap fields_in record_is) i)) in
+    let all = answers (F (arc_value self.function)) self.first records n c.in_ok-outcome.outcome c.process.new.built (plans_of self.tries) (plans_of c.settled.new.tries) written_before c.in-Ok-true.field-0 c.in-Ok-true.ensures.answered in
     let given = sym (ap (λ b. given_by b c.process.new.built) c.in-Ok-true.field-0-test) ∙ all.1 in
     let old = c.args.results.now in (
       all.0,
@@ -33,8 +33,8 @@ returns-in-Ok-false-clause-answered g c =
     let n = c.args.number in
     let records = arc_value self.records in
     let record_is = c.record_of.ensures ∙ ap (λ rs. record_of self.first rs n) c.deref.ensures in
-    let told = c.in_ok-outcome.ensures ∙ (λ i. (F (c.deref-2.ensures i)).answer ((c.of-record.ensures ∙ ap fields_in record_is) i)) in
-    let all = answers (F (arc_value self.function)) self.first records n c.in_ok-outcome.outcome c.process.new.built (plans_of self.tries) (plans_of c.settled.new.tries) told c.in-Ok-false.field-0 c.in-Ok-false.ensures.answered in
+    let written_before = c.in_ok-outcome.ensures ∙ (λ i. (F (c.deref-2.ensures i)).answer ((c.of-record.ensures ∙ ap fields_in record_is) i)) in
+    let all = answers (F (arc_value self.function)) self.first records n c.in_ok-outcome.outcome c.process.new.built (plans_of self.tries) (plans_of c.settled.new.tries) written_before c.in-Ok-false.field-0 c.in-Ok-false.ensures.answered in
     let given = sym (ap (λ b. given_by b c.process.new.built) c.in-Ok-false.field-0-test) ∙ all.1 in
     let old = c.args.results.now in
     (all.0, ap is_some given, all.2, sym (append-nil old) ∙ ap (λ o. old ++ option_to_list (numbered n o)) given)
@@ -46,8 +46,8 @@ returns-in-Err-clause-faulted g c =
     let n = c.args.number in
     let records = arc_value self.records in
     let record_is = c.record_of.ensures ∙ ap (λ rs. record_of self.first rs n) c.deref.ensures in
-    let told = c.in_ok-outcome.ensures ∙ (λ i. (F (c.deref-2.ensures i)).answer ((c.of-record.ensures ∙ ap fields_in record_is) i)) in
-    fault-weaker Bool Bool _ _ c.in-Err.error (λ class strikes. let both = fails (F (arc_value self.function)) self.first records n c.in_ok-outcome.outcome c.process.new.built (plans_of self.tries) (plans_of c.settled.new.tries) told class strikes in (both.0, both.1, refl)) c.in-Err.ensures.faulted
+    let written_before = c.in_ok-outcome.ensures ∙ (λ i. (F (c.deref-2.ensures i)).answer ((c.of-record.ensures ∙ ap fields_in record_is) i)) in
+    fault-weaker Bool Bool _ _ c.in-Err.error (λ class strikes. let both = fails (F (arc_value self.function)) self.first records n c.in_ok-outcome.outcome c.process.new.built (plans_of self.tries) (plans_of c.settled.new.tries) written_before class strikes in (both.0, both.1, refl)) c.in-Err.ensures.faulted
 
 pub returns-in_err-outcome-clause-no_memory : goal.returns-in_err-outcome-clause-no_memory
 returns-in_err-outcome-clause-no_memory g c = no-memory c.from_residual.result (refl, refl)

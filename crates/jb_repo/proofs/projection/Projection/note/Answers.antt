@@ -26,7 +26,7 @@ pub step_rows-requires-clause-can : goal.step_rows-requires-clause-can
 step_rows-requires-clause-can c =
     let k = (goal.at.step_rows-requires-clause-can c).After-partition_of-partition in
     let can = c.requires.1 in
-    rw can.items (can_all c.requires.0 can.ready can.accepted c.args.event can.passes c.laws_below.ensures c.args.self.now.rows c.partition_of-partition.result can.shows.table (about k c.requires.0 can))
+    rw can.items (can_all c.requires.0 can.ready can.accepted c.args.event can.passes c.lower_laws.ensures c.args.self.now.rows c.partition_of-partition.result can.shows.table (about k c.requires.0 can))
 
 pub count_own-requires-clause-inside : goal.count_own-requires-clause-inside
 count_own-requires-clause-inside c =
@@ -48,7 +48,7 @@ count_own-requires-clause-few c =
 pub plus-self-requires : goal.plus-self-requires
 plus-self-requires c =
     let can = c.requires.1 in
-    rw (can.shows.totals, c.gain.ensures) (sums_fit c.requires.0 can.ready can.accepted c.args.event can.passes c.laws_below.ensures)
+    rw (can.shows.totals, c.gain.ensures) (sums_fit c.requires.0 can.ready can.accepted c.args.event can.passes c.lower_laws.ensures)
 
 pub overflow_sub-self : goal.overflow_sub-self
 overflow_sub-self c =
@@ -75,7 +75,7 @@ returns c =
     let steps = rw can.items at (c.step_rows.ensures.steps any_row) in
     let sum = rw (can.shows.totals, c.gain.ensures) at c.plus-self.ensures in
     record {
-      table = ap (λ (x : List Row). take (length j.opening) x) steps ∙ table_after j can.ready can.accepted c.args.event can.passes c.laws_below.ensures c.args.self.now.rows any_row partition can.shows.table at;
+      table = ap (λ (x : List Row). take (length j.opening) x) steps ∙ table_after j can.ready can.accepted c.args.event can.passes c.lower_laws.ensures c.args.self.now.rows any_row partition can.shows.table at;
       own_events = c.count_own.ensures j.past c.args.event at can.shows.own_events;
       failures = c.note-4.ensures j.past at can.shows.failures;
       totals = sum ∙ sym (totals_after j can.ready can.accepted c.args.event can.passes);

@@ -19,7 +19,7 @@ is_least_plan-requires c =
     let ready = c.self.invariant.ready in
     record {
       few_counts = omega (arith, length-take (length c.rows_now-rows.result.now) c.remaining_counts.new.counts, c.rows_now-rows.ensures.table.few_rows);
-      few_chunks = rw same (remaining_fits c.laws_below.ensures (journal_of c.self.inside) ready c.self.invariant.accepted);
+      few_chunks = rw same (remaining_fits c.lower_laws.ensures (journal_of c.self.inside) ready c.self.invariant.accepted);
       some_thread = ready.some_threads;
       few_threads = ready.few_threads;
     }

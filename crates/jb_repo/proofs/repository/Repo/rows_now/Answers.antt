@@ -8,7 +8,7 @@ use Rattle.jb_repo.proofs.repository.Repo.rows_now.Goals as goal
 pub returns : goal.returns
 returns c =
     let all : c.len.result ≡ length c.self.inside.opening.items = omega arith in
-    let table = is_table c.laws_below.ensures (journal_of c.self.inside) c.self.invariant.ready c.self.invariant.accepted in
+    let table = is_table c.lower_laws.ensures (journal_of c.self.inside) c.self.invariant.ready c.self.invariant.accepted in
     let shown = rw (← all) at c.self.invariant.shows.table in
     record {
       rows = shown ∙ ap rows_of c.self.view_is;

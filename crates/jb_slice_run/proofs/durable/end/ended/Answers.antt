@@ -5,9 +5,9 @@ use Rattle.jb_slice_file.proofs.Handed.{handed_on}
 use Rattle.jb_step.specs.Statuses.{status_of}
 use Rattle.jb_slice_run.specs.Named.{Faults, HoldsFaults, faults_held}
 use Rattle.jb_slice_run.specs.Work.{HaveRowsEnded}
-use Rattle.jb_slice_run.specs.declared.place.Stage.TheVariants.{Underway}
+use Rattle.jb_slice_run.specs.declared.resumable_run.Stage.TheVariants.{SomeIntervals}
 use Rattle.jb_slice_run.specs.durable.Refusals.{IsUnended}
-use Rattle.jb_slice_run.specs.durable.Work.{work_of}
+use Rattle.jb_slice_run.specs.durable.Work.{slice_input_of}
 use Rattle.jb_slice_run.specs.declared.durable.error.DurableError.{DurableError}
 use Rattle.jb_slice_run.specs.declared.durable.error.DurableError.TheVariants.{Stopped, TooMany}
 use Rattle.jb_slice_run.proofs.durable.Telling.{has_ended_so, underway_at, whole_completed, with_rows}
@@ -23,35 +23,35 @@ returns-in_err-status-clause-why g c =
     handed_on c.from_residual.result c.in_err-status.field-0.0 _ c.from_residual.ensures.1 (cut_or_stopped _ c.in_err-status.field-0.0 c.in_err-status.ensures.cut)
 
 pub returns-clause-ends : goal.returns-clause-ends
-returns-clause-ends g c functions f number items all paused told =
-    let w = work_of c.args.job.now functions f number items in
+returns-clause-ends g c functions f number items all paused agrees =
+    let w = slice_input_of c.args.job.now functions f number items in
     let status = c.in_ok-status.ensures in
-    let stage : c.args.place.stage ≡ Underway = elim status.either [
-      | inl done ↦ told.settled (status.whole done)
-      | inr fails ↦ told.told.kept (told.failed (status.failed fails))
+    let stage : c.args.place.stage ≡ SomeIntervals = elim status.either [
+      | inl done ↦ agrees.settled (status.whole done)
+      | inr fails ↦ agrees.agrees.kept (agrees.failed (status.failed fails))
     ] in
     let rows = c.deref.ensures.value ∙ c.parts_of-results.ensures.rows in
     let at = with_rows w _ _ all c.deref.result.now rows (underway_at w _ _ all c.args.place.stage stage paused.place) in
     let held : map faults_held c.deref-2.result.now ≡ map faults_held c.args.place.faults.items = ap (map faults_held) c.deref-2.ensures.value ∙ c.parts_of-results.ensures.faults in
-    has_ended_so w _ c.deref.result.now all c.checkpoints_are_told.ensures.one c.rows_are_progress.ensures.ends _ c.in_ok-faults.faults at
+    has_ended_so w _ c.deref.result.now all c.bytes_identify_checkpoints.ensures.one c.rows_are_progress.ensures.ends _ c.in_ok-faults.faults at
     (c.in_ok-faults.ensures functions f w.limits number items _ all at (subst (λ (h : List Faults). HoldsFaults h all) (sym held) paused.faults)) (sym c.deref.ensures.value) c.parts_of-results.ensures.results refl refl
     (λ done. paused.whole (status.whole done))
     (λ is.
-    let fails = told.failed (status.failed is) in (
+    let fails = agrees.failed (status.failed is) in (
       paused.by fails,
-      subst (λ (r : List Row). status_of r false ≡ Failed) (sym rows) (told.told.failed fails),
-      subst HaveRowsEnded (sym rows) (told.told.ended fails),
+      subst (λ (r : List Row). status_of r false ≡ Failed) (sym rows) (agrees.agrees.failed fails),
+      subst HaveRowsEnded (sym rows) (agrees.agrees.ended fails),
     ))
 
-pub returns-clause-told : goal.returns-clause-told
-returns-clause-told g c told =
+pub returns-clause-agrees : goal.returns-clause-agrees
+returns-clause-agrees g c agrees =
     let status = c.in_ok-status.ensures in
     subst (λ (r : List Row). (c.in_ok-status.status ≡ status_of r false) × HaveRowsEnded r) (sym c.parts_of-results.ensures.rows)
     (elim status.either [
       | inl done ↦
-          let both = whole_completed c.args.place.rows.items (told.told.whole (told.finished (status.whole done))) in
+          let both = whole_completed c.args.place.rows.items (agrees.agrees.whole (agrees.finished (status.whole done))) in
           (done ∙ sym both.0, both.1)
       | inr fails ↦
-          let why = told.failed (status.failed fails) in
-          (fails ∙ sym (told.told.failed why), told.told.ended why)
+          let why = agrees.failed (status.failed fails) in
+          (fails ∙ sym (agrees.agrees.failed why), agrees.agrees.ended why)
     ])

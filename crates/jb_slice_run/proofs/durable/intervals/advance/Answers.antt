@@ -1,10 +1,10 @@
 use Rattle.std.proofs.Common.{◌++◌, inl, inr, [], ◌∷◌, refl, sym, true≢false}
 use Rattle.std.specs.Arc.{arc_value}
 use Rattle.sqlite.specs.Held.{state}
-use Rattle.jb_slice_file.specs.Kept.{kept}
+use Rattle.jb_slice_file.specs.CheckpointBytes.{checkpoint_bytes}
 use Rattle.jb_slice_file.proofs.Handed.{handed_on}
 use Rattle.jb_slice_run.specs.durable.Refusals.{store_refusal}
-use Rattle.jb_slice_run.specs.durable.Work.{work_of}
+use Rattle.jb_slice_run.specs.durable.Work.{slice_input_of}
 use Rattle.jb_slice_run.specs.declared.durable.error.DurableError.TheVariants.{Run}
 use Rattle.jb_slice_run.proofs.durable.Causing.{interval_own, store_own}
 use Rattle.jb_slice_run.proofs.durable.Ending.{none_is_some}
@@ -29,7 +29,7 @@ pub returns-in_err-place-clause-again : goal.returns-in_err-place-clause-again
 returns-in_err-place-clause-again g c done = absurd (c.in_err-place.ensures.again done)
 
 pub returns-in_err-place-clause-crash : goal.returns-in_err-place-clause-crash
-returns-in_err-place-clause-crash g c clean functions all at = rests_safe (work_of c.args.job.now functions (g.F.RowFunction.answer (arc_value c.args.function.now)) c.args.number c.args.items.now) _ _ _ all at
+returns-in_err-place-clause-crash g c clean functions all at = rests_safe (slice_input_of c.args.job.now functions (g.F.RowFunction.answer (arc_value c.args.function.now)) c.args.number c.args.items.now) _ _ _ all at
 
 -- ---- the run was whole
 
@@ -49,14 +49,14 @@ returns-in_default-clause-settled g c _ = c.in_ok-place.ensures.settled c.in_def
 pub returns-in_default-clause-whole : goal.returns-in_default-clause-whole
 returns-in_default-clause-whole g c _ = c.in_ok-place.ensures.whole c.in_default.is
 
-pub returns-in_default-clause-told : goal.returns-in_default-clause-told
-returns-in_default-clause-told g c told = c.in_ok-place.ensures.told told
+pub returns-in_default-clause-agrees : goal.returns-in_default-clause-agrees
+returns-in_default-clause-agrees g c agrees = c.in_ok-place.ensures.agrees agrees
 
 pub returns-in_default-clause-again : goal.returns-in_default-clause-again
 returns-in_default-clause-again g c done = (refl, refl)
 
 pub returns-in_default-clause-crash : goal.returns-in_default-clause-crash
-returns-in_default-clause-crash g c clean functions all at = rests_safe (work_of c.args.job.now functions (g.F.RowFunction.answer (arc_value c.args.function.now)) c.args.number c.args.items.now) _ _ _ all at
+returns-in_default-clause-crash g c clean functions all at = rests_safe (slice_input_of c.args.job.now functions (g.F.RowFunction.answer (arc_value c.args.function.now)) c.args.number c.args.items.now) _ _ _ all at
 
 -- ---- the database doesn't take it
 
@@ -71,7 +71,7 @@ returns-in_err-append-clause-cause g c clean functions all at =
     let on = rw c.in-Some.is at ((rw c.deref.ensures at c.in_ok-place.ensures.on) functions all at.place) in
     let cause = rw (c.as_str.ensures.value, c.as_slice.ensures.value) at (c.in_err-append.ensures.cause clean all at.keeps) in
     handed_on c.from_residual-in_err-append.result (store_refusal e) _ c.from_residual-in_err-append.ensures.1
-    (untaken (work_of c.args.job.now functions (g.F.RowFunction.answer (arc_value c.args.function.now)) c.args.number c.args.items.now) (state g.S.Store c.args.conn.now) (state g.S.Store c.append.new.conn) all (kept c.in-Some.next) c.args.end.now at.ends at.so_far on.0 e cause)
+    (untaken (slice_input_of c.args.job.now functions (g.F.RowFunction.answer (arc_value c.args.function.now)) c.args.number c.args.items.now) (state g.S.Store c.args.conn.now) (state g.S.Store c.append.new.conn) all (checkpoint_bytes c.in-Some.next) c.args.end.now at.ends at.so_far on.0 e cause)
 
 pub returns-in_err-append-clause-again : goal.returns-in_err-append-clause-again
 returns-in_err-append-clause-again g c done = absurd (none_is_some _ c.in-Some.next c.in-Some.is (c.in_ok-place.ensures.again done))
@@ -81,7 +81,7 @@ returns-in_err-append-clause-crash g c clean functions all at db may =
     let on = rw c.in-Some.is at ((rw c.deref.ensures at c.in_ok-place.ensures.on) functions all at.place) in
     elim (c.append.ensures.crash clean all at.keeps at.ends db may) [
       | inl old ↦ (all, inl old, at.so_far)
-      | inr new ↦ (all ++ kept c.in-Some.next ∷ [], inl (rw (c.as_str.ensures.value, c.as_slice.ensures.value) at new), on.0)
+      | inr new ↦ (all ++ checkpoint_bytes c.in-Some.next ∷ [], inl (rw (c.as_str.ensures.value, c.as_slice.ensures.value) at new), on.0)
     ]
 
 -- ---- it is kept
@@ -93,7 +93,7 @@ returns-clause-kept g c well clean functions all at =
     let ends = rw (c.as_str.ensures.value, c.as_slice.ensures.value) at (c.in_ok-append.ensures.end all at.ends) in
     let by = rw c.in-Some.is at ((rw c.deref.ensures at c.in_ok-place.ensures.by) well functions all at.place) in
     let faults = rw c.in-Some.is at ((rw c.deref.ensures at c.in_ok-place.ensures.faults) functions all at.place at.faults) in
-    (all ++ kept c.in-Some.next ∷ [], record { keeps = keeps; so_far = on.0; place = on.1; faults = faults; by = by; ends = ends }, λ is. absurd (true≢false is))
+    (all ++ checkpoint_bytes c.in-Some.next ∷ [], record { keeps = keeps; so_far = on.0; place = on.1; faults = faults; by = by; ends = ends }, λ is. absurd (true≢false is))
 
 pub returns-clause-counted : goal.returns-clause-counted
 returns-clause-counted g c _ = c.in_ok-append.ensures.counted
@@ -104,8 +104,8 @@ returns-clause-settled g c is = absurd (true≢false is)
 pub returns-clause-whole : goal.returns-clause-whole
 returns-clause-whole g c is = absurd (true≢false is)
 
-pub returns-clause-told : goal.returns-clause-told
-returns-clause-told g c told = c.in_ok-place.ensures.told told
+pub returns-clause-agrees : goal.returns-clause-agrees
+returns-clause-agrees g c agrees = c.in_ok-place.ensures.agrees agrees
 
 pub returns-clause-again : goal.returns-clause-again
 returns-clause-again g c done = absurd (none_is_some _ c.in-Some.next c.in-Some.is (c.in_ok-place.ensures.again done))
@@ -115,5 +115,5 @@ returns-clause-crash g c clean functions all at db may =
     let on = rw c.in-Some.is at ((rw c.deref.ensures at c.in_ok-place.ensures.on) functions all at.place) in
     elim (c.append.ensures.crash clean all at.keeps at.ends db may) [
       | inl old ↦ (all, inl old, at.so_far)
-      | inr new ↦ (all ++ kept c.in-Some.next ∷ [], inl (rw (c.as_str.ensures.value, c.as_slice.ensures.value) at new), on.0)
+      | inr new ↦ (all ++ checkpoint_bytes c.in-Some.next ∷ [], inl (rw (c.as_str.ensures.value, c.as_slice.ensures.value) at new), on.0)
     ]

@@ -3,8 +3,8 @@ use Rattle.std.specs.Arc.{arc_value}
 use Rattle.sqlite.specs.Held.{state}
 use Rattle.jb_slice_file.proofs.Clean.{clean_before}
 use Rattle.jb_slice_file.proofs.Handed.{handed_on}
-use Rattle.jb_slice_run.specs.durable.Work.{work_of}
-use Rattle.jb_slice_run.specs.declared.durable.pause.Pause.TheVariants.{Failed, Intervals, Stopped, Whole}
+use Rattle.jb_slice_run.specs.durable.Work.{slice_input_of}
+use Rattle.jb_slice_run.specs.declared.durable.loop_end.LoopEnd.TheVariants.{Failed, Intervals, Stopped, Whole}
 use Rattle.jb_slice_run.proofs.durable.Causing.{gone_since}
 use Rattle.jb_slice_run.proofs.durable.Ending.{match_ok}
 use Rattle.jb_slice_run.proofs.durable.Filing.{open_since}
@@ -43,7 +43,7 @@ intervals-preserved g c = record {
       open_since (state g.S.Store c.args.conn.now) (state g.S.Store c.intervals.conn) (state g.S.Store c.advance.new.conn)
       c.intervals.invariant.counts c.advance.ensures.counts (c.intervals.invariant.shut early) (c.advance.ensures.shut clean) was;
   number = (let one = c.in_ok-next.ensures.counted c.if-not-more.false in omega (arith, one, c.intervals.invariant.number));
-  told = λ told. c.in_ok-next.ensures.told (c.intervals.invariant.told told);
+  agrees = λ agrees. c.in_ok-next.ensures.agrees (c.intervals.invariant.agrees agrees);
   again = λ done.
       let said = c.advance.ensures.again (c.intervals.invariant.again done).1 in
       absurd (true≢false (sym c.if-not-more.false ∙ match_ok c.advance.result _ _ _ c.in_ok-next.was said.0));
@@ -61,9 +61,9 @@ returns-then-place-clause-kept g c clean functions all at =
     let now = c.intervals.invariant.rests clean functions all at in
     (now.0, _, record { rests = now.1; whole = λ is. absurd (failed_or_whole is) }, λ is. absurd (failed_or_intervals is))
 
-pub returns-then-place-clause-told : goal.returns-then-place-clause-told
-returns-then-place-clause-told g c told = record {
-  told = c.intervals.invariant.told told;
+pub returns-then-place-clause-agrees : goal.returns-then-place-clause-agrees
+returns-then-place-clause-agrees g c agrees = record {
+  agrees = c.intervals.invariant.agrees agrees;
   settled = λ is. absurd (failed_or_whole is);
   finished = λ is. absurd (failed_or_whole is);
   failed = λ is. c.if-place.true;
@@ -84,9 +84,9 @@ returns-then-stops-clause-kept g c clean functions all at =
     let now = c.intervals.invariant.rests clean functions all at in
     (now.0, _, record { rests = now.1; whole = λ is. absurd (stopped_or_whole is) }, λ is. absurd (stopped_or_intervals is))
 
-pub returns-then-stops-clause-told : goal.returns-then-stops-clause-told
-returns-then-stops-clause-told g c told = record {
-  told = c.intervals.invariant.told told;
+pub returns-then-stops-clause-agrees : goal.returns-then-stops-clause-agrees
+returns-then-stops-clause-agrees g c agrees = record {
+  agrees = c.intervals.invariant.agrees agrees;
   settled = λ is. absurd (stopped_or_whole is);
   finished = λ is. absurd (stopped_or_whole is);
   failed = λ is. absurd (failed_or_stopped (sym is));
@@ -108,7 +108,7 @@ returns-in_err-next-clause-cause g c clean functions all at =
     let early = clean_before _ _ c.advance.ensures.clean clean in
     let now = c.intervals.invariant.rests early functions all at in
     let e = c.in_err-next.field-0.0 in
-    handed_on c.from_residual.result e _ c.from_residual.ensures.1 (gone_since (work_of c.args.job.now functions (g.F.RowFunction.answer (arc_value c.args.function.now)) c.args.number c.args.items.now) (state g.S.Store c.args.conn.now) (state g.S.Store c.intervals.conn) (state g.S.Store c.advance.new.conn)
+    handed_on c.from_residual.result e _ c.from_residual.ensures.1 (gone_since (slice_input_of c.args.job.now functions (g.F.RowFunction.answer (arc_value c.args.function.now)) c.args.number c.args.items.now) (state g.S.Store c.args.conn.now) (state g.S.Store c.intervals.conn) (state g.S.Store c.advance.new.conn)
     c.intervals.invariant.counts c.advance.ensures.counts (c.intervals.invariant.shut early) e (c.in_err-next.ensures.cause clean functions now.0 now.1))
 
 pub returns-in_err-next-clause-own : goal.returns-in_err-next-clause-own
@@ -137,9 +137,9 @@ returns-then-not-more-clause-shut g c clean was =
     open_since (state g.S.Store c.args.conn.now) (state g.S.Store c.intervals.conn) (state g.S.Store c.advance.new.conn)
     c.intervals.invariant.counts c.advance.ensures.counts (c.intervals.invariant.shut early) (c.advance.ensures.shut clean) was
 
-pub returns-then-not-more-clause-told : goal.returns-then-not-more-clause-told
-returns-then-not-more-clause-told g c told = record {
-  told = c.in_ok-next.ensures.told (c.intervals.invariant.told told);
+pub returns-then-not-more-clause-agrees : goal.returns-then-not-more-clause-agrees
+returns-then-not-more-clause-agrees g c agrees = record {
+  agrees = c.in_ok-next.ensures.agrees (c.intervals.invariant.agrees agrees);
   settled = λ _. c.in_ok-next.ensures.settled c.if-not-more.true;
   finished = λ _. c.in_ok-next.ensures.whole c.if-not-more.true;
   failed = λ is. absurd (failed_or_whole (sym is));
@@ -164,9 +164,9 @@ returns-clause-crash g c clean functions all at db may =
     let now = c.intervals.invariant.rests clean functions all at in
     (now.0, inl (now.1.keeps.leaves db may), now.1.so_far)
 
-pub returns-clause-told : goal.returns-clause-told
-returns-clause-told g c told = record {
-  told = c.intervals.invariant.told told;
+pub returns-clause-agrees : goal.returns-clause-agrees
+returns-clause-agrees g c agrees = record {
+  agrees = c.intervals.invariant.agrees agrees;
   settled = λ is. absurd (whole_or_intervals (sym is));
   finished = λ is. absurd (whole_or_intervals (sym is));
   failed = λ is. absurd (failed_or_intervals (sym is));

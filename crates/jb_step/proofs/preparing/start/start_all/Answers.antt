@@ -13,15 +13,15 @@ use Rattle.jb_step.proofs.beginning.Opening.{all-started, begun-at, fit-at, one-
 use Rattle.jb_step.proofs.preparing.start.start_all.Goals as goal
 
 -- the rows are all gone through
-started : (g : _) (c : goal.After-drop-artifacts-2 g) → held_in (table_in g.T.PartitionTask.standing c.loop-row.tasks.items) ≡ first_tasks c.args.prepared.now (map g.T.Artifacts.Meaning.meaning c.args.artifacts.items)
+started : (g : _) (c : goal.After-drop-artifacts-2 g) → held_in (table_in g.T.PartitionTask.task_state c.loop-row.tasks.items) ≡ first_tasks c.args.prepared.now (map g.T.Artifacts.Meaning.meaning c.args.artifacts.items)
 started g c =
-    all-started c.args.prepared.now (held_in (table_in g.T.PartitionTask.standing c.loop-row.tasks.items)) _ c.begun_rows-rows.result.now c.loop-row.row-index _ (omega arith) c.loop-row.invariant.3
+    all-started c.args.prepared.now (held_in (table_in g.T.PartitionTask.task_state c.loop-row.tasks.items)) _ c.begun_rows-rows.result.now c.loop-row.row-index _ (omega arith) c.loop-row.invariant.3
     ∙ ap (λ (rows : List Row). tasks_from c.args.prepared.now 0 rows (map g.T.Artifacts.Meaning.meaning c.args.artifacts.items)) c.begun_rows-rows.ensures.value
 
-in-first : (g : _) (c : goal.After-drop-artifacts-2 g) → table_in g.T.PartitionTask.standing c.loop-row.tasks.items ≡ first_table c.args.prepared.now (map g.T.Artifacts.Meaning.meaning c.args.artifacts.items)
+in-first : (g : _) (c : goal.After-drop-artifacts-2 g) → table_in g.T.PartitionTask.task_state c.loop-row.tasks.items ≡ first_table c.args.prepared.now (map g.T.Artifacts.Meaning.meaning c.args.artifacts.items)
 in-first g c =
-    let table = table_in g.T.PartitionTask.standing c.loop-row.tasks.items in
-    let long = length-map c.loop-row.tasks.items (option_map g.T.PartitionTask.standing) in
+    let table = table_in g.T.PartitionTask.task_state c.loop-row.tasks.items in
+    let long = length-map c.loop-row.tasks.items (option_map g.T.PartitionTask.task_state) in
     let many = c.loop-row.invariant.0 in
     let rows = ap length c.begun_rows-rows.ensures.value in
     sym (in-places c.args.prepared.now.rows _ table (omega (arith, long, many, rows)) c.loop-row.invariant.1 (started g c))

@@ -9,7 +9,7 @@ use Rattle.jb_step.proofs.preparing.start.start_all.Given as goal
 abbrev pub invariant-loop-row : goal.invariant-loop-row
 invariant-loop-row g l =
     (length l.tasks.items ≡ l.row-index)
-    × ArePlaced 0 (table_in g.T.PartitionTask.standing l.tasks.items)
+    × ArePlaced 0 (table_in g.T.PartitionTask.task_state l.tasks.items)
     × FitRows (unfinished_from l.row-index (drop l.row-index l.rows)) (map g.T.Artifacts.Meaning.meaning (into_iter_items l.artifacts))
-    × (held_in (table_in g.T.PartitionTask.standing l.tasks.items) ++ tasks_from l.prepared l.row-index (drop l.row-index l.rows) (map g.T.Artifacts.Meaning.meaning (into_iter_items l.artifacts))
+    × (held_in (table_in g.T.PartitionTask.task_state l.tasks.items) ++ tasks_from l.prepared l.row-index (drop l.row-index l.rows) (map g.T.Artifacts.Meaning.meaning (into_iter_items l.artifacts))
     ≡ tasks_from l.prepared 0 l.rows (map g.T.Artifacts.Meaning.meaning l.fn.artifacts.items))

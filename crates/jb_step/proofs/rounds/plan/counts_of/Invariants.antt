@@ -8,5 +8,5 @@ use Rattle.jb_step.proofs.rounds.plan.counts_of.Given as goal
 
 abbrev pub invariant-loop-partition : goal.invariant-loop-partition
 invariant-loop-partition g l =
-    let table = table_in g.T.PartitionTask.standing l.held in
+    let table = table_in g.T.PartitionTask.task_state l.held in
     l.counts.items ++ remaining l.item_count (map (λ n. row_now (held_in table) n.0 n.1) (enumerate_from l.partition (drop l.partition l.rows))) ≡ counts_now l.prepared table

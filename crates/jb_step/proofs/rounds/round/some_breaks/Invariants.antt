@@ -5,4 +5,4 @@ use Rattle.jb_step.proofs.rounds.round.some_breaks.Given as goal
 
 abbrev pub invariant-loop-done : goal.invariant-loop-done
 invariant-loop-done g l =
-    breaks_in (endings_of g.T.PartitionTask.standing (drop l.done-index l.dones)) ≡ breaks_in (endings_of g.T.PartitionTask.standing l.dones)
+    breaks_in (endings_of g.T.PartitionTask.task_state (drop l.done-index l.dones)) ≡ breaks_in (endings_of g.T.PartitionTask.task_state l.dones)

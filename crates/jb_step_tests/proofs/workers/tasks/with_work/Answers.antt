@@ -8,5 +8,5 @@ pub returns : goal.returns
 returns g c =
     let work : Work _ = record { lane = c.args.lane; task = c.args.task } in
     let pushed : c.push.new.self.items ≡ c.args.works.items ++ work ∷ [] = search rules in
-    let can : CanBegin (g.T.PartitionTask.standing c.args.task) = record { waiting = search rules; ready = search rules } in
-    rw pushed (All-push (λ w. CanBegin (g.T.PartitionTask.standing w.task)) _ work c.requires.all can)
+    let can : CanBegin (g.T.PartitionTask.task_state c.args.task) = record { waiting = search rules; ready = search rules } in
+    rw pushed (All-push (λ w. CanBegin (g.T.PartitionTask.task_state w.task)) _ work c.requires.all can)

@@ -1,5 +1,5 @@
 use Rattle.std.proofs.Common.{◌≡◌, take}
-use Rattle.jb_records.specs.Shares.{joined}
+use Rattle.jb_records.specs.PartitionResults.{joined}
 use Rattle.jb_slice_run.proofs.durable.end.SliceEnd.all_results.Given as goal
 
 -- the shares so far are appended

@@ -8,12 +8,12 @@ use Rattle.jb_step.proofs.rounds.runner.RoundRunner.one_round.Goals as goal
 use Rattle.jb_step.proofs.rounds.runner.RoundRunner.one_round.Goals.{After-put_back}
 
 -- The round's attempts are those of the tasks that were taken out, and each had memory.
-back : (g : _) (c : After-put_back g) → IsPutBack g.T.PartitionTask.standing (map slot_pair c.args.slots.now) c.args.ran.now.held.items c.in_ok-dones.dones.items c.put_back.new.places.items
+back : (g : _) (c : After-put_back g) → IsPutBack g.T.PartitionTask.task_state (map slot_pair c.args.slots.now) c.args.ran.now.held.items c.in_ok-dones.dones.items c.put_back.new.places.items
 back g c =
-    let standing = g.T.PartitionTask.standing in
-    let done = subst (λ us. AreDonesOf standing us c.in_ok-dones.dones.items) c.in_ok-works.ensures.works (done-by standing c.in_ok-works.works.items c.in_ok-dones.dones.items c.in_ok-dones.ensures.dones) in
+    let task_state = g.T.PartitionTask.task_state in
+    let done = subst (λ us. AreDonesOf task_state us c.in_ok-dones.dones.items) c.in_ok-works.ensures.works (done-by task_state c.in_ok-works.works.items c.in_ok-dones.dones.items c.in_ok-dones.ensures.dones) in
     rw (c.put_back.ensures, c.in_ok-works.ensures.places)
-    (put-back standing (map slot_pair c.args.slots.now) c.args.ran.now.held.items c.in_ok-dones.dones.items (in-turn c.args.slots.now c.requires.in_turn) c.requires.placed done c.in_ok-dones.ensures.whole)
+    (put-back task_state (map slot_pair c.args.slots.now) c.args.ran.now.held.items c.in_ok-dones.dones.items (in-turn c.args.slots.now c.requires.in_turn) c.requires.placed done c.in_ok-dones.ensures.whole)
 
 pub returns-clause-round : goal.returns-clause-round
 returns-clause-round g c =

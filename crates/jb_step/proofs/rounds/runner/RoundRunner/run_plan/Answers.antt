@@ -2,7 +2,7 @@ use Rattle.std.proofs.Common.{◌≡◌, ℕ, ◌+◌, ◌<◌, ◌⊎◌, inl, 
 use Rattle.jb_cert.specs.Load.{Load}
 use Rattle.jb_cert.specs.Plans.{sets_of}
 use Rattle.jb_cert.specs.WrapAround.{wrapped_rounds}
-use Rattle.jb_chunk.specs.Standing.{TaskState}
+use Rattle.jb_chunk.specs.TaskState.{TaskState}
 use Rattle.jb_step.specs.preparing.Setup.{Setup}
 use Rattle.jb_step.specs.inside.table.Places.{table_in}
 use Rattle.jb_step.specs.inside.rounds.Round.{Progress, progress}
@@ -14,8 +14,8 @@ use Rattle.jb_step.proofs.rounds.runner.RoundRunner.run_plan.Goals as goal
 use Rattle.jb_step.proofs.rounds.runner.RoundRunner.run_plan.Goals.{then-broke, else-broke}
 
 -- the plan was made for the tasks that were held
-made-for : {T : Type 0} (standing : T → TaskState) (s : Setup) (load : Load) (held places : List (Option T)) → held ≡ places → IsPlanFor s (table_in standing held) (plan_run_of load 0) → IsPlanFor s (table_in standing places) (plan_run_of load 0)
-made-for standing s load held places is made = subst (λ (os : List (Option _)). IsPlanFor s (table_in standing os) (plan_run_of load 0)) is made
+made-for : {T : Type 0} (task_state : T → TaskState) (s : Setup) (load : Load) (held places : List (Option T)) → held ≡ places → IsPlanFor s (table_in task_state held) (plan_run_of load 0) → IsPlanFor s (table_in task_state places) (plan_run_of load 0)
+made-for task_state s load held places is made = subst (λ (os : List (Option _)). IsPlanFor s (table_in task_state os) (plan_run_of load 0)) is made
 
 in-plan : (load : Load) (rounds round : ℕ) → length (wrapped_rounds load.counts load.threads) ≡ rounds → round < rounds → round < length (sets_of (wrapped_rounds load.counts load.threads))
 in-plan load rounds round long lt = omega (arith, lt, long, long-plan load)
@@ -25,7 +25,7 @@ returns-then-is_cut-clause-run g c = none-run _ _ _ _ c.requires.few
 
 pub loop-round-init : goal.loop-round-init
 loop-round-init g c =
-    let made = made-for g.T.PartitionTask.standing c.args.prepared.now c.in_ok-plan.plan _ c.args.ran.now.held.items c.as_slice.ensures.value c.in_ok-plan.ensures in
+    let made = made-for g.T.PartitionTask.task_state c.args.prepared.now c.in_ok-plan.plan _ c.args.ran.now.held.items c.as_slice.ensures.value c.in_ok-plan.ensures in
     let some = made.some in (
       opens _ _ _ c.requires.table,
       omega (arith, some, long-plan c.in_ok-plan.plan, c.rounds-rounds.ensures.length),
@@ -42,10 +42,10 @@ next_round-requires-clause-ready g c κs within = ready-of c.args.prepared.now _
 pub next_round-requires-clause-can_run : goal.next_round-requires-clause-can_run
 next_round-requires-clause-can_run g c κs within =
     let load = c.in_ok-plan.plan in
-    let first : Progress = progress g.T.PartitionTask.standing ((goal.Analyzer-dyn g c.args.analyzer.now).analyzed c.args.analyzer.now.1) c.args.ran.now in
-    let made = made-for g.T.PartitionTask.standing c.args.prepared.now load _ c.args.ran.now.held.items c.as_slice.ensures.value c.in_ok-plan.ensures in
+    let first : Progress = progress g.T.PartitionTask.task_state ((goal.Analyzer-dyn g c.args.analyzer.now).analyzed c.args.analyzer.now.1) c.args.ran.now in
+    let made = made-for g.T.PartitionTask.task_state c.args.prepared.now load _ c.args.ran.now.held.items c.as_slice.ensures.value c.in_ok-plan.ensures in
     let here = in-plan load c.rounds-rounds.result c.loop-round.round c.rounds-rounds.ensures.length c.loop-round-test.true in
-    open-can-run c.laws_below.ensures c.args.prepared.now load first made c.requires.table c.loop-round.round here _ c.loop-round.invariant.0
+    open-can-run c.lower_laws.ensures c.args.prepared.now load first made c.requires.table c.loop-round.round here _ c.loop-round.invariant.0
 
 pub returns-in_err-broke-clause-grew : goal.returns-in_err-broke-clause-grew
 returns-in_err-broke-clause-grew g c = grew-more _ _ _ c.loop-round.invariant.3 c.next_round.ensures.grew
@@ -56,8 +56,8 @@ returns-in_err-take_note-clause-grew g c = grew-more _ _ _ c.loop-round.invarian
 pub returns-then-over-clause-run : goal.returns-then-over-clause-run
 returns-then-over-clause-run g c =
     let load = c.in_ok-plan.plan in
-    let first : Progress = progress g.T.PartitionTask.standing ((goal.Analyzer-dyn g c.args.analyzer.now).analyzed c.args.analyzer.now.1) c.args.ran.now in
-    let made = made-for g.T.PartitionTask.standing c.args.prepared.now load _ c.args.ran.now.held.items c.as_slice.ensures.value c.in_ok-plan.ensures in
+    let first : Progress = progress g.T.PartitionTask.task_state ((goal.Analyzer-dyn g c.args.analyzer.now).analyzed c.args.analyzer.now.1) c.args.ran.now in
+    let made = made-for g.T.PartitionTask.task_state c.args.prepared.now load _ c.args.ran.now.held.items c.as_slice.ensures.value c.in_ok-plan.ensures in
     let here = in-plan load c.rounds-rounds.result c.loop-round.round c.rounds-rounds.ensures.length c.loop-round-test.true in
     let round = c.loop-round.round in
     let one = c.in_ok-broke.ensures.round.left.rounds_are in
@@ -68,7 +68,7 @@ returns-then-over-clause-run g c =
       | else-broke w ↦ λ it. inr (eqb-true (round + 1) c.rounds-rounds.result (sym w.over-is ∙ it) ∙ sym (long-plan load ∙ c.rounds-rounds.ensures.length))
     ]
     in
-    ends c.laws_below.ensures c.args.prepared.now load first made c.requires.table round here _ c.loop-round.invariant.0 _ c.in_ok-broke.broke c.in_ok-broke.ensures.round
+    ends c.lower_laws.ensures c.args.prepared.now load first made c.requires.table round here _ c.loop-round.invariant.0 _ c.in_ok-broke.broke c.in_ok-broke.ensures.round
     c.args.round_limit c.if-broke.over c.take_note.new.notes.items over (subst (λ (n : ℕ). AreWithin c.args.round_limit n) (sym now) c.loop-round.invariant.2) c.in_ok-take_note.ensures
 
 pub returns-then-over-clause-table : goal.returns-then-over-clause-table
@@ -80,8 +80,8 @@ returns-then-over-clause-grew g c = grew-more _ _ _ c.loop-round.invariant.3 c.n
 pub loop-round-preserved : goal.loop-round-preserved
 loop-round-preserved g c =
     let load = c.in_ok-plan.plan in
-    let first : Progress = progress g.T.PartitionTask.standing ((goal.Analyzer-dyn g c.args.analyzer.now).analyzed c.args.analyzer.now.1) c.args.ran.now in
-    let made = made-for g.T.PartitionTask.standing c.args.prepared.now load _ c.args.ran.now.held.items c.as_slice.ensures.value c.in_ok-plan.ensures in
+    let first : Progress = progress g.T.PartitionTask.task_state ((goal.Analyzer-dyn g c.args.analyzer.now).analyzed c.args.analyzer.now.1) c.args.ran.now in
+    let made = made-for g.T.PartitionTask.task_state c.args.prepared.now load _ c.args.ran.now.held.items c.as_slice.ensures.value c.in_ok-plan.ensures in
     let here = in-plan load c.rounds-rounds.result c.loop-round.round c.rounds-rounds.ensures.length c.loop-round-test.true in
     let round = c.loop-round.round in
     let lt = c.loop-round-test.true in
@@ -91,7 +91,7 @@ loop-round-preserved g c =
       | else-broke w ↦ (w.if-broke.false, (let more = below-of (round + 1) c.rounds-rounds.result (sym w.over-is ∙ c.if-over.false) (omega (arith, lt)) in omega (arith, more)))
     ]
     in (
-      goes-on c.laws_below.ensures c.args.prepared.now load first made c.requires.table round here _ c.loop-round.invariant.0 _ c.in_ok-broke.broke c.in_ok-broke.ensures.round quiet.0,
+      goes-on c.lower_laws.ensures c.args.prepared.now load first made c.requires.table round here _ c.loop-round.invariant.0 _ c.in_ok-broke.broke c.in_ok-broke.ensures.round quiet.0,
       quiet.1,
       c.is_cut-else-over.ensures c.if-is_cut-2.false,
       grew-more _ _ _ c.loop-round.invariant.3 c.in_ok-broke.ensures.grew,

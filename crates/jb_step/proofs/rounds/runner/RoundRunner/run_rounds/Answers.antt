@@ -23,7 +23,7 @@ run_plan-requires-clause-few g c κs bounds = c.loop.invariant.0.few
 
 pub loop-preserved : goal.loop-preserved
 loop-preserved g c = (
-  runs-more c.laws_below.ensures c.args.prepared.now c.args.round_limit false _ _ _ c.loop.invariant.0
+  runs-more c.lower_laws.ensures c.args.prepared.now c.args.round_limit false _ _ _ c.loop.invariant.0
       (named _ _ _ _ _ _ c.if-ran.false c.in_ok-ran.ensures.run),
   c.in_ok-ran.ensures.table,
   grew-more _ _ _ c.loop.invariant.2 c.in_ok-ran.ensures.grew,
@@ -46,7 +46,7 @@ pub returns-in_err-stop-clause-grew : goal.returns-in_err-stop-clause-grew
 returns-in_err-stop-clause-grew g c = grew-more _ _ _ c.loop.invariant.2 c.run_plan.ensures.grew
 
 pub returns-then-ran-clause-run : goal.returns-then-ran-clause-run
-returns-then-ran-clause-run g c = runs-more c.laws_below.ensures c.args.prepared.now c.args.round_limit _ _ _ _ c.loop.invariant.0 c.in_ok-ran.ensures.run
+returns-then-ran-clause-run g c = runs-more c.lower_laws.ensures c.args.prepared.now c.args.round_limit _ _ _ _ c.loop.invariant.0 c.in_ok-ran.ensures.run
 
 pub returns-then-ran-clause-grew : goal.returns-then-ran-clause-grew
 returns-then-ran-clause-grew g c = grew-more _ _ _ c.loop.invariant.2 c.run_plan.ensures.grew

@@ -37,9 +37,9 @@ left : (g : _) (c : goal.In_ok-artifacts g) → IsLeft (run-of g c) (fault g c)
 left g c =
     let r = run-of g c in
     let ran = c.in_ok-ran.ran in
-    let standing = g.T.PartitionTask.standing in
+    let task_state = g.T.PartitionTask.task_state in
     let first = moment ((goal.Analyzer-dyn g (c.args.analyzer.now.0, c.tell_first.new.analyzer)).analyzed c.tell_first.new.analyzer) c.in_ok-fault.fault in
-    let now = progress standing ((goal.Analyzer-dyn g (c.args.analyzer.now.0, c.run_rounds.new.analyzer)).analyzed c.run_rounds.new.analyzer) ran in
+    let now = progress task_state ((goal.Analyzer-dyn g (c.args.analyzer.now.0, c.run_rounds.new.analyzer)).analyzed c.run_rounds.new.analyzer) ran in
     let yes : c.are_numbers.result ≡ true = search rules in
     record {
       first = first;
@@ -58,20 +58,20 @@ left g c =
     }
 
 pub returns-clause-run : goal.returns-clause-run
-returns-clause-run g c = run-is c.laws_below.ensures (run-of g c) (fault g c) (left g c)
+returns-clause-run g c = run-is c.lower_laws.ensures (run-of g c) (fault g c) (left g c)
 
 pub returns-clause-headline : goal.returns-clause-headline
 returns-clause-headline g c =
     let r = run-of g c in
     let first = first-is g c in
-    headline-of c.laws_below.ensures r first.0 first.1 (run-is c.laws_below.ensures r (fault g c) (left g c))
+    headline-of c.lower_laws.ensures r first.0 first.1 (run-is c.lower_laws.ensures r (fault g c) (left g c))
 
 pub returns-clause-on_the_way : goal.returns-clause-on_the_way
-returns-clause-on_the_way g c = way-is c.laws_below.ensures (run-of g c) (fault g c) (left g c)
+returns-clause-on_the_way g c = way-is c.lower_laws.ensures (run-of g c) (fault g c) (left g c)
 
 pub returns-clause-status : goal.returns-clause-status
 returns-clause-status g c =
-    let same = heard-fault c.laws_below.ensures (run-of g c) (fault g c) (left g c) in
+    let same = heard-fault c.lower_laws.ensures (run-of g c) (fault g c) (left g c) in
     c.status_now-status.ensures ∙ ap₂ status_of c.as_slice-3.ensures.value (c.is_some.ensures ∙ same)
 
 pub returns-clause-grew : goal.returns-clause-grew

@@ -1,5 +1,0 @@
-use Rattle.std.proofs.Common.{rules}
-use Rattle.jb_program.proofs.streams.failure.FailureFromRestartFault.from.Goals as goal
-
-pub returns-in-Saved : goal.returns-in-Saved
-returns-in-Saved c = search rules

@@ -1,0 +1,41 @@
+use Rattle.std.proofs.Common.{rules, ◌≡◌, ◌∙◌, ap, refl, sym, Ok, Err}
+use Rattle.jb_step.specs.Answers.{artifacts_of}
+use Rattle.jb_step.specs.preparing.Setup.{rows_now}
+use Rattle.jb_records.specs.declared.error.RecordsStepError.TheVariants.{Step}
+use Rattle.jb_records.proofs.Answered.{err-of, ok-of}
+use Rattle.jb_records.proofs.Breaking.{run-broken}
+use Rattle.jb_records.proofs.Causes.{handed-on}
+use Rattle.jb_records.proofs.Steps.{stands}
+use Rattle.jb_records.proofs.interval.ran.Goals as goal
+
+pub returns-clause-ran : goal.returns-clause-ran
+returns-clause-ran g c =
+    let is : c.run_pooled_step-end.result.0 ≡ Ok c.in_ok-end.end = search rules in
+    let run = ok-of _ _ _ is c.run_pooled_step-end.ensures.run in
+    let fit = ok-of _ _ _ is c.run_pooled_step-end.ensures.fit in
+    let ways = ok-of _ _ _ is c.run_pooled_step-end.ensures.on_the_way in record {
+      run = _;
+      setup = refl;
+      artifacts_are = refl;
+      rounds_are = refl;
+      answered = record { fit = fit; run = run };
+      headline = ok-of _ _ _ is c.run_pooled_step-end.ensures.headline;
+      on_the_way = ways;
+      snapshot_is = refl;
+      fit = fit;
+      ways = ways;
+      rows = run.rows ∙ ap (rows_now c.args.prepared.rows) (sym run.tasks);
+      came_back = run.came_back ∙ ap artifacts_of (sym run.tasks);
+    }
+
+pub returns-clause-status : goal.returns-clause-status
+returns-clause-status g c =
+    let is : c.run_pooled_step-end.result.0 ≡ Ok c.in_ok-end.end = search rules in
+    stands c.in_ok-end.end.snapshot _ _ c.run_pooled_step-end.result.1 c.run_pooled_step-end.result.2 c.in_ok-end.end.status (ok-of _ _ _ is c.run_pooled_step-end.ensures.status)
+
+pub returns-in_err-end-clause-why : goal.returns-in_err-end-clause-why
+returns-in_err-end-clause-why g c =
+    let is : c.run_pooled_step-end.result.0 ≡ Err c.in_err-end.field-0.0 = search rules in
+    let e = c.in_err-end.field-0.0 in
+    handed-on c.from_residual-in_err-end.result (Step e) _ c.from_residual-in_err-end.ensures.1
+    (run-broken _ e (err-of _ _ _ is c.run_pooled_step-end.ensures.causes) (err-of _ _ _ is c.run_pooled_step-end.ensures.wrong))

@@ -1,8 +1,0 @@
-use Rattle.std.proofs.Common.{◌≡◌, ◌≤◌, length, take}
-use Rattle.jb_records.specs.Shares.{AreNumbered, joined}
-use Rattle.jb_records.proofs.shares.shares_of.Given as goal
-
--- the shares so far are as many as their rows say, joined they are the results before the place, and these rows are there
-abbrev pub invariant-loop-partition : goal.invariant-loop-partition
-invariant-loop-partition l =
-    AreNumbered (take l.partition l.prepared.rows) l.shares.items × (joined l.shares.items ≡ take l.place l.earlier) × (l.place ≤ length l.earlier) × (l.partition ≤ length l.prepared.rows)

@@ -1,5 +1,0 @@
-use Rattle.jb_rules.proofs.StaySound.{rows_stay_sound}
-use Rattle.jb_rules.proofs.life.rows_stay_sound.Goals as goal
-
-pub returns : goal.returns
-returns c = rows_stay_sound
