@@ -1,7 +1,7 @@
 #!/bin/sh
 #SBATCH --requeue
 #SBATCH --signal=B:USR1@90
-# A job array of Slurm: each task runs its slice, and where it is run again, goes on from its last report. 90 seconds before its time is
+# A job array of Slurm: each task runs its slice, and if it is run again, resumes from its last report. 90 seconds before its time is
 # over Slurm sends USR1: the task ends with the run that is at work, and is put into the queue again. A cancel (scancel) sends TERM: it
 # ends in the same way, and stays out of the queue. A stopped task that isn't in the queue says what to type. Slurm kills what hasn't ended 30
 # seconds after a TERM (KillWait), so a run has about 15 seconds of rounds; RUN_SECONDS names another number.

@@ -22,7 +22,7 @@ DATA_PARTS = {"records": "other records", "prefix": "another prefix", "drop": "a
 
 
 class Ended(Exception):
-    """There is no report: the exit status, the line that says why, and what to type next, where that isn't this call."""
+    """There is no report: the exit status, the line that says why, and what to type next, if that isn't this call."""
 
     def __init__(self, status, reason, next_line=None):
         super().__init__(status, reason)
@@ -50,7 +50,7 @@ class Folder:
         for place in places:
             self.read(place, job)
         has_last = not self.kept or self.kept[-1][0] in places
-        only_earlier = f"{path} has no report to go on from, only what is known of earlier ones; to begin anew, name another folder"
+        only_earlier = f"{path} has no report to resume from, only the rows of removed ones; to start again, name another folder"
         reports.checked(has_last, only_earlier)
 
     def place(self, name):
@@ -98,7 +98,7 @@ class Folder:
         try:
             reports.put_in_place(place, content, is_new=True)
         except FileExistsError:
-            raise Ended(4, f"{place} is there since: another call is at work in this folder") from None
+            raise Ended(4, f"{place} was written meanwhile: another call is at work in this folder") from None
         except OSError as fault:
             raise not_written(place, fault) from None
         self.next += 1
@@ -107,7 +107,7 @@ class Folder:
             self.remove(*earlier)
 
     def keep_run(self, name, began, status, rounds):
-        """Writes when a run began, which ends now; None is the name of one whose report isn't kept. Where it can't be written, all else stands."""
+        """Writes when a run began, which ends now; None is the name of one whose report isn't kept. If it can't be written, nothing else changes."""
         tree = {"run": name, "began": clock(began), "ended": clock(time.time()), "status": status, "rounds": rounds}
         try:
             append_line(self.place("earlier.jsonl"), json.dumps(tree, separators=(",", ":")).encode())
@@ -161,7 +161,7 @@ class Folder:
 
 
 def not_written(place, fault):
-    return Ended(4, f"{place} can't be written: {fault.strerror}; what was done since the last report is lost, and is done again once it can")
+    return Ended(4, f"{place} can't be written: {fault.strerror}; what was done since the last report is lost; the next call does it again")
 
 
 def locked(path):

@@ -1,34 +1,34 @@
 """What to type next for a job that isn't completed, by the cause."""
 import shlex
 
-OTHER_RECORDS = "put the records of the reports back, or begin anew in another folder"
+OTHER_RECORDS = "put the records of the reports back, or start again in another folder"
 SAVED = {
     "Saved(Records)": f"the job's records end before the ranges of its reports do: {OTHER_RECORDS}",
-    "Saved(Step)": "the job has no step of the last report's id: give it that id, or begin anew in another folder",
+    "Saved(Step)": "the job has no step of the last report's id: give it that id, or start again in another folder",
 }
 
 
 def after_refusal(refused, place, check, call):
-    """After the program has refused a document: `place` is the report that a restart goes on from, `check` the line that looks for all
+    """After the program has refused a document: `place` is the report that a restart resumes from, `check` the line that looks for all
     faults of the job's document."""
     name = refused.said.removeprefix("refused: ")
     if refused.word == "restart" and name in SAVED:
         return f"next: {SAVED[name]}"
     if refused.word == "restart" and (name.startswith("Saved(") or name.endswith("(outputs)")):
-        return f"next: {place} isn't as it was kept: move it away, to go on from the report before; then: {call}"
+        return f"next: {place} was changed: move it away, to resume from the report before; then: {call}"
     return f"next: {check}"
 
 
 def after_other_data(status, words):
-    """Where the document's data are others than those of the reports, whose job stands so; the words are those of the call."""
+    """If the document's data are others than those of the reports, whose job has this status; the words are those of the call."""
     if status == "COMPLETED":
-        return "next: another folder; the job of these reports is completed, and nothing is left"
+        return "next: name another folder; the job of these reports is completed"
     changed = shlex.join([words[0], "--changed", *words[1:]])
-    return f"next: another folder, to begin anew; or, to do what is left by the new ones: {changed}"
+    return f"next: to start again, name another folder; to do the rest with the new data: {changed}"
 
 
 def after_failure(failures, job, call):
-    """After partitions have failed; of each its failure, or None where it isn't known."""
+    """After partitions have failed; of each its failure, or None if it isn't known."""
     reasons = {failure.is_at_limit() for failure in failures if failure is not None}
     if not reasons:
         return f"go on: {call}"

@@ -64,7 +64,7 @@ class Progress:
         return done + sum(row.at - row.lo for row in step.rows), all_records
 
     def begin(self, report):
-        """Takes the report that a call goes on from, if there is one."""
+        """Takes the report that a call resumes from, if there is one."""
         self.at = time.monotonic()
         self.done = self.counted(report)[0] if report else 0
 

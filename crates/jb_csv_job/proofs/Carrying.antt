@@ -11,6 +11,7 @@ use Rattle.jb_csv_job.specs.Done.{HasEnded, HasTakenSoFar}
 use Rattle.jb_csv_job.specs.Job.{JobRecord, job_record}
 use Rattle.jb_csv_job.specs.SliceFiles.{CanResumeJob, LeavesSlice, image_by}
 use Rattle.jb_csv_job.specs.Loop.{IfJobResumes, IsLeftOfAny}
+use Rattle.jb_csv_job.specs.Skipped.{HasListed, IfListed}
 use Rattle.jb_csv_job.specs.declared.asked.Asked.{Asked}
 use Rattle.jb_csv_job.specs.declared.failure.CsvJobError.{CsvJobError}
 use Rattle.jb_csv_job.specs.declared.job.CsvJob.{CsvJob}
@@ -27,6 +28,12 @@ module _ {R : Type 0} (remaining : R → Option (List ℕ)) (reader : RowsReader
       → IfJobResumes own remaining reader log db (λ functions text. IfOk result (λ end. HasEnded own (Some text) took end.status end.skips))
   ends-same took result ends =
       subst (λ (j : JobRecord). IfJobResumes j remaining reader log db (λ functions text. IfOk result (λ end. HasEnded j (Some text) took end.status end.skips))) same ends
+
+  pub lists-same : {A : Type 0} (old new : Option A) (took : A → A → List (List ℕ) → Type 0) (result : Result JobEnd CsvJobError)
+      → IfJobResumes job remaining reader log db (λ functions text. IfOk result (λ end. IfListed old new (λ a b. HasListed job (Some text) (took a b) end.status end.skips)))
+      → IfJobResumes own remaining reader log db (λ functions text. IfOk result (λ end. IfListed old new (λ a b. HasListed own (Some text) (took a b) end.status end.skips)))
+  lists-same old new took result lists =
+      subst (λ (j : JobRecord). IfJobResumes j remaining reader log db (λ functions text. IfOk result (λ end. IfListed old new (λ a b. HasListed j (Some text) (took a b) end.status end.skips)))) same lists
 
   pub front-same : (took : List (List ℕ) → Type 0) (refuse : CsvJobError → Type 0) (result : Result JobEnd CsvJobError)
       → IfJobResumes job remaining reader log db (λ functions text. MatchResult result (λ end. HasTakenSoFar job (Some text) took) (λ e. refuse e ⊎ HasTakenSoFar job (Some text) took))

@@ -1,20 +1,20 @@
 -- The slices that are done, with one more.
-use Rattle.std.proofs.Common.{◌≡◌, ◌∙◌, ℕ, suc, ◌+◌, ◌<◌, ◌≤◌, ◌++◌, List, Bool, true, false, Option, None, Some, ap, arith, length, length-append, map, refl, subst, sym, take, ◌⊎◌, inl, inr}
+use Rattle.std.proofs.Common.{◌≡◌, ◌∙◌, ℕ, suc, ◌+◌, ◌<◌, ◌≤◌, ◌++◌, List, Bool, true, false, Option, None, Some, ap, arith, length, length-append, refl, subst, sym, ◌⊎◌, inl, inr}
 use Rattle.std.specs.Prelude.{MatchOption, ⊤}
 use Rattle.std.proofs.lemmas.List.{length-map}
 use Rattle.jb_collect.specs.declared.calls.Status.TheVariants.{Completed, Failed}
 use Rattle.jb_mapper.specs.EvenCover.{even_ranges}
 use Rattle.jb_records.specs.PartitionResults.{joined}
 use Rattle.jb_slice_run.specs.declared.durable.end.SliceEnd.{SliceEnd}
-use Rattle.jb_slice_run.specs.Held.{fault_in, faults_in}
-use Rattle.jb_slices.specs.Function.{Fault, all_results, fault_classes, faults_from}
+use Rattle.jb_slice_run.specs.Held.{fault_in}
+use Rattle.jb_slices.specs.Function.{Fault, all_results, fault_classes}
 use Rattle.jb_slices.specs.Job.{HasSlice, IsLastSlice, first_of, rules_of, slice_at}
 use Rattle.jb_slices.specs.Passing.{SlicePasses}
-use Rattle.jb_slices.proofs.Faults.{classes-append, faults-count, few-less}
+use Rattle.jb_slices.proofs.Faults.{classes-append, faults-count}
 use Rattle.jb_slices.proofs.Passing.{order, ranges-none}
 use Rattle.jb_slices.proofs.Seams.{all-of-them, empty-after}
 use Rattle.jb_csv_job.specs.Job.{JobRecord}
-use Rattle.jb_csv_job.specs.Loop.{AreDone, AreGood, IsCounted, front_of}
+use Rattle.jb_csv_job.specs.Loop.{AreDone, AreGood, front_of}
 use Rattle.jb_csv_job.specs.Slices.{IsSliceEnd}
 use Rattle.jb_csv_job.specs.Tasks.{TaskPasses, given_by, is_own, own_items, task_items}
 use Rattle.jb_csv_job.specs.declared.tally.Tally.{Tally}

@@ -1,7 +1,6 @@
 -- Slice after slice.
-use Rattle.std.proofs.Common.{◌≡◌, ◌∙◌, ℕ, suc, ◌<◌, ◌≤◌, List, [], Bool, true, false, Option, None, Some, ap, arith, length, map, refl, subst, sym, take, ◌⊎◌, inl, inr}
-use Rattle.std.specs.Prelude.{MatchOption, IfSome, not, ⊤}
-use Rattle.std.specs.Bool.{MatchBool}
+use Rattle.std.proofs.Common.{◌≡◌, ◌∙◌, ℕ, suc, ◌<◌, ◌≤◌, List, [], Bool, true, false, Option, None, Some, ap, arith, map, refl, subst, sym, take, ◌⊎◌, inl, inr}
+use Rattle.std.specs.Prelude.{MatchOption, not, ⊤}
 use Rattle.sqlite_wal.specs.Recovery.{Image}
 use Rattle.jb_rows.specs.Fields.{Fields, packed}
 use Rattle.jb_rows.specs.Streams.{HasGivenRows}

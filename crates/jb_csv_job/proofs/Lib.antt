@@ -4,6 +4,7 @@ pub mod Ending
 pub mod Fronts
 pub mod Going
 pub mod Joining
+mod Listing
 mod Matching
 pub mod Owning
 pub mod Sinks

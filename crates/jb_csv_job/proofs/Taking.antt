@@ -1,5 +1,5 @@
 -- The records of one slice.
-use Rattle.std.proofs.Common.{◌≡◌, ◌∙◌, ℕ, zero, suc, ◌+◌, ◌≤◌, ◌++◌, ◌∷◌, List, [], Bool, true, false, Option, ap, append_assoc, arith, length, map, refl, subst, sym, take, drop, ◌⊎◌, inl, inr}
+use Rattle.std.proofs.Common.{◌≡◌, ◌∙◌, ℕ, zero, suc, ◌≤◌, ◌++◌, ◌∷◌, List, [], Bool, true, false, Option, ap, append_assoc, arith, length, map, refl, subst, sym, take, drop, ◌⊎◌, inl, inr}
 use Rattle.std.specs.Bool.{MatchBool}
 use Rattle.std.proofs.lemmas.List.{append-nil, append_cancel_left, drop-map, length-map, length-take-le, take-append-le, take-map, take_all}
 use Rattle.jb_rows.specs.Fields.{Fields, packed}

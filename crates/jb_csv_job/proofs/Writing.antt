@@ -63,3 +63,25 @@ written contents delimiter task f to done blank begun ended header records nothi
 pub first-packed : (task : Task) (f : Function) (count : ℕ) (records : List Fields)
     → given_by task (all_results f (take count (map packed records))) ≡ given_by task (all_results f (map packed (take count records)))
 first-packed task f count records = ap (λ items. given_by task (all_results f items)) (take-map packed count records)
+
+-- ---- a list
+
+-- nothing, then its header row
+pub list-begun : {W : Type 0} (contents : W → Option (List ℕ)) (delimiter : ℕ) (to : W) (blank begun : CsvSink W) (rows : List (List ℕ)) (header : List Fields)
+    → IsBetweenLines delimiter blank → Appends (contents to) (lines_written contents blank) [] → HasTaken contents blank begun rows → map fields_in rows ≡ header
+    → IsBetweenLines delimiter begun × Appends (contents to) (lines_written contents begun) (csv_rows delimiter header)
+list-begun contents delimiter to blank begun rows header between nothing took is =
+    let (there, lines) = took delimiter between in
+    let all = Appends-trans (contents to) (lines_written contents blank) (lines_written contents begun) [] (csv_rows delimiter (map fields_in rows)) nothing lines in
+    (there, subst (λ xs. Appends (contents to) (lines_written contents begun) (csv_rows delimiter xs)) is all)
+
+-- then these rows, and then the stream is given back
+pub list-written : {W : Type 0} (contents : W → Option (List ℕ)) (delimiter : ℕ) (to done : W) (begun ended : CsvSink W) (header : List Fields) (rows : List (List ℕ))
+    → IsBetweenLines delimiter begun × Appends (contents to) (lines_written contents begun) (csv_rows delimiter header) → HasTaken contents begun ended rows
+    → Keeps (lines_written contents ended) (contents done) → Appends (contents to) (contents done) (csv_rows delimiter (header ++ map fields_in rows))
+list-written contents delimiter to done begun ended header rows begins took kept =
+    let (there, first) = begins in
+    let (last, later) = took delimiter there in
+    let both = Appends-trans (contents to) (lines_written contents begun) (lines_written contents ended) (csv_rows delimiter header) (csv_rows delimiter (map fields_in rows)) first later in
+    let lines = sym (lines-of-both delimiter header (map fields_in rows)) in
+    appends-kept (contents to) (lines_written contents ended) (contents done) _ (subst (Appends (contents to) (lines_written contents ended)) lines both) kept

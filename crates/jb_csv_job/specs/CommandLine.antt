@@ -80,16 +80,16 @@ IsWrong first (failure.Words fault) = IsWrongValue first fault
 IsWrong first failure.Memory = ⊤
 IsWrong first _ = ⊥
 
--- ---- what words ask for
+-- ---- what the arguments ask for
 
--- the values that `clap` gives the options at these words
+-- the values that `clap` gives the options for these arguments
 abbrev pub first_at : (name : Text) → (own : Option Text) → (words : List Text) → Text → Option Text
 first_at name own words id = first_of id (matches_of (job_app name own) words)
 
 abbrev pub all_at : (name : Text) → (own : Option Text) → (words : List Text) → Text → Option (List Text)
 all_at name own words id = all_of id (matches_of (job_app name own) words)
 
--- THE WORDS ASK FOR THIS: `clap` takes them, and their values say it
+-- THE ARGUMENTS ASK FOR THIS: `clap` takes them, and their values say it
 abbrev pub AskFor : (name : Text) → (own : Option Text) → (words : List Text) → Asked → Type 0
 AskFor name own words asked = (fault_of (job_app name own) words ≡ []) × IsLine (first_at name own words) (all_at name own words) own asked
 

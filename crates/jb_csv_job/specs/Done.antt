@@ -17,7 +17,7 @@ abbrev pub IsInput : JobRecord → (text : Option (List ℕ)) → (header record
 IsInput job text header records = IfSome text (λ bytes. (header ≡ copied_header job.options bytes) × AreRowsOf job.options bytes records)
 
 -- WHAT WAS WRITTEN IS THE HEADER ROW, IF IT IS COPIED, AND THE RESULTS OF ALL RECORDS THAT WERE READ, each a line, once and in order. A part
--- writes nothing. Where the bytes of a stream aren't known, nothing is said of them.
+-- writes nothing. If the bytes of a stream aren't known, nothing is said of them.
 pub record IsJobDone (job : JobRecord) (text old new : Option (List ℕ)) : Type 0 where
   pub header : List Fields
   pub records : List Fields
@@ -53,7 +53,7 @@ pub record HasTakenSoFar (job : JobRecord) (text : Option (List ℕ)) (took : Li
 
 -- ---- THE STATUS
 
--- THE EXIT STATUS IS 0 ONLY WHERE THE RULES LET THE RECORDS OF THE TASK PASS, AND 1 ONLY WHERE THEY DON'T
+-- THE EXIT STATUS IS 0 ONLY IF THE RULES LET THE RECORDS OF THE TASK PASS, AND 1 ONLY IF THEY DON'T
 pub record IsByRules (job : JobRecord) (text : Option (List ℕ)) (status : ℕ) : Type 0 where
   pub records : List Fields
   pub read : AreRead job text records

@@ -1,4 +1,4 @@
--- WHAT A JOB REPORTS WHERE IT HAS NO ANSWER: a text that begins with the name of the refusal. Nothing is said here of the texts of faults that come
+-- WHAT A JOB REPORTS IF IT HAS NO ANSWER: a text that begins with the name of the refusal. Nothing is said here of the texts of faults that come
 -- from the system.
 use Rattle.std.specs.Prelude.{ℕ, Bool, true, false, ◌++◌, List, Option, Some, None, codes, decimal, string_bytes}
 use Rattle.jb_csv_job.specs.SliceTexts.{at_slice, run_text, store_text}
@@ -46,7 +46,7 @@ abbrev pub records_text : (records : List ℕ) → (asked read : ℕ) → (is_en
 records_text records asked read true = codes "OtherNumber: the input has " ++ (decimal read ++ (codes " " ++ (records ++ (codes ", and --records says " ++ (decimal asked ++ codes ". The last slice isn't run. Type the same line with the right input.")))))
 records_text records asked read false = codes "OtherNumber: the input has " ++ (decimal read ++ (codes " " ++ (records ++ (codes " at least, and --records says " ++ (decimal asked ++ codes ". Type the same line with the right input.")))))
 
--- of a job with this name and these words for its input and its records, over this folder
+-- of a job over this folder, with this name, and these names for its input and its records
 abbrev pub job_failure_text : (name input records folder : List ℕ) → CsvJobError → Option (List ℕ)
 job_failure_text name input records folder (failure.Words fault) = Some (words_text name input fault)
 job_failure_text name input records folder (failure.Folder fault) = folder_text folder fault

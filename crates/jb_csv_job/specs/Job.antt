@@ -8,8 +8,8 @@ use Rattle.jb_csv_job.specs.declared.asked.Asked.{Asked}
 use Rattle.jb_csv_job.specs.declared.asked.Task.{Task}
 use Rattle.jb_csv_job.specs.declared.job.CsvJob.{CsvJob}
 
--- THE JOB: what is done to each record; how records are read and written; its identity and its limits; the stamps of the functions that do the
--- same, its own first; and what the call does of it
+-- THE JOB: what is done to each record; how records are read and written; its identity and its limits. `stamps` are those of the functions that do
+-- the same, its own first. `task` is what the call does of it.
 pub record JobRecord : Type 0 where
   pub function : Function
   pub options : RowsOptions

@@ -1,4 +1,4 @@
--- Where a job stands between two slices.
+-- How far a job is between two slices.
 use Rattle.std.specs.Prelude.{ℕ, suc, ◌≡◌, ◌≤◌, ◌<◌, ◌⊎◌, ◌+◌, Bool, true, false, List, [], Option, length, map, take, MatchOption, Some, ⊤}
 use Rattle.std.specs.Bool.{MatchBool}
 use Rattle.sqlite_wal.specs.Recovery.{Image}
@@ -26,24 +26,29 @@ pub record StandsBefore {R : Type 0} (job : JobRecord) (remaining : R → Option
   pub has : HasSlice job.job (map packed records) number
   pub given : HasGivenRows job.options remaining reader text (take (first_of job.job number) records)
 
--- these are the records of this slice, which is the last one, or the reader stands before the next one
+-- these are the records of this slice. It is the last one, or the reader is before the next one.
 pub record IsSliceRead {R : Type 0} (job : JobRecord) (remaining : R → Option (List ℕ)) (text : List ℕ) (records : List Fields) (number : ℕ) (reader : RowsReader R) (rows : List Fields) (is_last : Bool) : Type 0 where
   pub items : map packed rows ≡ slice_of job records number
   pub next : MatchBool is_last (IsLastSlice job.job (map packed records) number) (StandsBefore job remaining text records (suc number) reader)
 
--- where a reader that has given nothing of the text yet reads the text of a job that is taken up, this holds
+-- this holds if a reader that has given nothing of the text yet reads the text of a job that can be resumed
 abbrev pub IfJobResumes : {R : Type 0} → JobRecord → (remaining : R → Option (List ℕ)) → RowsReader R → (log db : ℕ → List ℕ) → (Functions → (text : List ℕ) → Type 0) → Type 0
 IfJobResumes job remaining reader log db Holds =
     (text : List ℕ) → HasGivenRows job.options remaining reader text [] → (functions : Functions) → CanResumeJob job functions (Some text) log db → Holds functions text
 
 -- ---- COUNTED
 
--- A slice that ended is counted. Its results are given away where it is whole and none failed before; where more were skipped than the limit, the
--- job ends.
+-- there is a limit, and these are more skips
+abbrev pub IsOver : (limit : Option ℕ) → (skips : ℕ) → Type 0
+IsOver limit skips = (most : ℕ) × (limit ≡ Some most) × (most < skips)
+
+-- A slice that ended is counted. Its results are given to the sink if it is COMPLETED and none failed before. If more were skipped than the limit,
+-- the job ends.
 pub record IsCounted (limit : Option ℕ) (old new : Tally) (end : SliceEnd) (seam : Seam) : Type 0 where
   pub gives : seam ≡ Gives → (end.status ≡ Completed) × (old.is_failed ≡ false) × (new.is_failed ≡ false) × (new.skips ≡ old.skips + length end.skips.items) × MatchOption limit ⊤ (λ most. new.skips ≤ most)
   pub keeps : seam ≡ Keeps → (new.is_failed ≡ true) × ((old.is_failed ≡ true) ⊎ (end.status ≡ Failed))
   pub ends : seam ≡ Ends → (new.is_failed ≡ true) × (end.status ≡ Completed) × ((most : ℕ) × (limit ≡ Some most) × (most < old.skips + length end.skips.items))
+  pub over : seam ≡ Ends → IsOver limit new.skips
 
 -- ---- DONE
 
@@ -68,16 +73,16 @@ pub record AreDone (job : JobRecord) (items : List (List ℕ)) (number : ℕ) (t
   pub good : t.is_failed ≡ false → AreGood job items number t taken
   pub bad : t.is_failed ≡ true → TaskPasses job items → ⊥
 
--- THE JOB GOES ON FROM THE SLICE OF THIS NUMBER, of these items: the slices before the next one are done, and without a failure this is the last
--- one if there is no more
+-- THE JOB CONTINUES AFTER THE SLICE OF THIS NUMBER, of these items: the slices before the next one are done. Without a failure this is the last
+-- one if there is no more.
 pub record HasGoneOn (job : JobRecord) (items : List (List ℕ)) (number : ℕ) (t : Tally) (taken : List (List ℕ)) (more : Bool) : Type 0 where
   pub done : AreDone job items (suc number) t taken
   pub last : more ≡ false → t.is_failed ≡ false → IsLastSlice job.job items number
 
 -- ---- LEFT
 
--- A crash leaves of the files of a slice what it left before the call, or the files are those of this slice over the items that were read: and
--- if these held it so far, or nothing, they hold it so far again.
+-- A crash leaves of the files of a slice what it left before the call. Or the files are those of this slice, over the items that were read: if they
+-- held it so far, or nothing, they hold it so far again.
 abbrev pub IsLeft : JobRecord → Functions → (stored : Image) → (number : ℕ) → (items : List (List ℕ)) → (before : Type 0) → (k : ℕ) → (read : List (List ℕ)) → Image → Type 0
 IsLeft job functions stored number items before k read image =
     before ⊎ ((k ≡ number) × (read ≡ items) × (HoldsSlice job functions number items stored → HoldsRun (KeepsOwn job functions number items) image))

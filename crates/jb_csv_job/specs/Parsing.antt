@@ -1,4 +1,4 @@
--- What the words of a command line are answered by.
+-- How the arguments of a command line are answered.
 use Rattle.std.specs.Prelude.{List, Option}
 use Rattle.clap.specs.Words.{Text}
 use Rattle.jb_csv_job.specs.CommandLine.{AskFor, AskForText}

@@ -33,7 +33,7 @@ abbrev pub part_text : Option ℕ → (word : List ℕ) → List ℕ
 part_text None word = []
 part_text (Some number) word = codes ", " ++ (decimal number ++ word)
 
--- and so much of a hundred is done, so many records a second, in so many seconds, and so many are left: each where it is known
+-- the pace: the share that is done in percent, the records a second, the seconds elapsed and the seconds left. What isn't known is left out.
 abbrev pub pace_text : (share rate elapsed left : Option ℕ) → List ℕ
 pace_text share rate elapsed left = part_text share (codes "%") ++ (part_text rate (codes " a second") ++ (part_text elapsed (codes " s elapsed") ++ part_text left (codes " s left")))
 

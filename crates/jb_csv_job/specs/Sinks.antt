@@ -21,7 +21,7 @@ HasTaken contents start now results =
     (delimiter : ℕ) → IsBetweenLines delimiter start
     → IsBetweenLines delimiter now × Appends (lines_written contents start) (lines_written contents now) (csv_rows delimiter (map fields_in results))
 
--- of itself none was written
+-- since the sink itself none was written
 pub taken_none : {W : Type 0} (contents : W → Option (List ℕ)) (s : CsvSink W) → HasTaken contents s s []
 taken_none contents s delimiter between = (between, Appends-nil (lines_written contents s))
 

@@ -17,7 +17,7 @@ use Rattle.jb_csv_job.specs.Tasks.{is_own}
 
 -- ---- ONE SLICE
 
--- these bytes keep the slice so far
+-- these bytes store the slice so far
 abbrev pub KeepsOwn : JobRecord → Functions → (number : ℕ) → (items : List (List ℕ)) → List CheckpointBytes → Type 0
 KeepsOwn job functions number items all = KeepsSlice job.job functions number items all
 
@@ -35,8 +35,8 @@ slice_of job records number = slice_at job.job (map packed records) number
 abbrev pub image_by : (log db : ℕ → List ℕ) → (number : ℕ) → Image
 image_by log db number = record { log = log number; db = db number }
 
--- THE JOB IS TAKEN UP: the bytes of the text are known, the function of each of its stamps is its own, and the files of each of the task's own
--- slices hold that slice of the text so far, or nothing
+-- THE JOB CAN BE RESUMED: the bytes of the text are known, and the function of each of its stamps is its own. The files of each of the task's own
+-- slices hold that slice of the text so far, or nothing.
 pub record CanResumeJob (job : JobRecord) (functions : Functions) (text : Option (List ℕ)) (log db : ℕ → List ℕ) : Type 0 where
   pub bytes : List ℕ
   pub known : text ≡ Some bytes
@@ -53,7 +53,7 @@ pub record LeavesSlice (job : JobRecord) (functions : Functions) (text : Option 
 
 -- ---- FROM CALL TO CALL
 
--- THE LAW: what a crash leaves of the files of a slice is what the next call takes up
+-- THE LAW: the next call can resume what a crash leaves of the files of a slice
 abbrev pub LeftIsHeld : Type 0
 LeftIsHeld =
     (job : JobRecord) (functions : Functions) (number : ℕ) (items : List (List ℕ)) (image : Image) → HoldsRun (KeepsOwn job functions number items) image

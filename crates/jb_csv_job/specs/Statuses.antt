@@ -1,5 +1,5 @@
--- THE EXIT STATUS WHERE A JOB HAS NO ANSWER: 2 if it was stopped; 3 if it refuses what it was given, and the same line won't help; 4 if the same line helps later: no
--- memory, no worker, no room, a busy file, a stream that failed; 5 if the words are wrong.
+-- THE EXIT STATUS IF A JOB HAS NO ANSWER. It is 2 if the job was stopped. It is 3 if it refuses what it was given, and the same line won't help. It
+-- is 4 if the same line helps later: no memory, no worker, no room, a busy file, a stream that failed. It is 5 if the arguments are wrong.
 use Rattle.std.specs.Prelude.{ℕ}
 use Rattle.jb_csv_job.specs.declared.failure.CsvJobError.{CsvJobError}
 use Rattle.jb_csv_job.specs.declared.failure.CsvJobError.TheVariants as failure

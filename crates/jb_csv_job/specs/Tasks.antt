@@ -15,7 +15,7 @@ is_own Run number = true
 is_own (Part part of) number = number % of == part
 is_own Collect number = true
 
--- the items of its own slices, of the first so many, one slice after the other
+-- the items of those slices that are the task's own, of the first so many, one slice after the other
 abbrev pub own_items : Job → Task → (items : List (List ℕ)) → (count : ℕ) → List (List ℕ)
 own_items job task items zero = []
 own_items job task items (suc k) = own_items job task items k ++ (if is_own task k then slice_at job items k else [])
@@ -36,7 +36,7 @@ given_by Collect rows = rows
 
 -- ---- THE RULES
 
--- those of each partition of its own slices pass, and all their faults together are no more than the job's limit
+-- the rules let each partition of the task's own slices pass, and all their faults together are no more than the job's limit
 pub record OwnPass (job : JobRecord) (items : List (List ℕ)) : Type 0 where
   pub each : (k : ℕ) → is_own job.task k ≡ true → SlicePasses job.job job.limits job.function (slice_at job.job items k)
   pub few : MatchOption job.limits.job_skips ⊤ (λ limit. length (fault_classes job.function (task_items job.job job.task items)) ≤ limit)

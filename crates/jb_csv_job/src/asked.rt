@@ -22,14 +22,14 @@ pub enum Task {
 pub struct Asked {
     /// 1 to 64.
     pub threads: u32,
-    /// The path of the folder that keeps the slices' files.
+    /// The path of the folder that has the slices' files.
     pub folder: String,
     /// The stamps of `--keep-stamp`, in their order.
     pub stamps: Vec<String>,
     pub task: Task,
     /// How many records the input must have.
     pub records: Option<u64>,
-    /// The path of the file that gets the results. There is none with a part.
+    /// The path of the file that gets the results. A part has none.
     pub output: Option<String>,
     /// The path of the file that gets the records that were skipped, and those by which partitions failed.
     pub skipped: Option<String>,
@@ -51,7 +51,7 @@ pub struct OwnOption<'a> {
     pub help: &'a str,
 }
 
-/// What the words of the command line are answered by.
+/// The answer to the arguments of the command line.
 #[derive(Drop)]
 pub enum Request {
     /// The job is to be run so.

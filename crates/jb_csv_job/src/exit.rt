@@ -63,7 +63,7 @@ impl<'a> fmt::Display for EndText<'a> {
     }
 }
 
-/// Keeps the end of a run in the history of FOLDER.
+/// Writes the end of a run to the history of FOLDER.
 fn note_end(host: &HostRuntime, folder: &str, status: u8) {
     if !folder.is_empty() {
         note(host, folder, &Event::End { status });
@@ -71,8 +71,8 @@ fn note_end(host: &HostRuntime, folder: &str, status: u8) {
 }
 
 /// The exit status of a job's answer: 0 if it is COMPLETED, and 1 if it FAILED. Without an answer it is 2, 3, 4 or 5 (`failure_status`). A line
-/// on standard error says which it is, why, and what to type next. `folder` is FOLDER, or empty if the words weren't read. Its history says that
-/// the run ends.
+/// on standard error says which it is, why, and what to type next. `folder` is FOLDER, or empty if the arguments weren't read. Its history says
+/// that the run ends.
 pub fn exit_code<T: Eprint + Host>(
     rt: &T,
     job: &CsvJob,

@@ -10,7 +10,7 @@ use std::alloc::{AllocError, AllocFailed};
 use std::io;
 use thiserror::Error;
 
-/// What is wrong with the words of the command line.
+/// What is wrong with the arguments of the command line.
 #[derive(Debug, Drop)]
 pub enum WordsFault {
     /// They are those of an earlier version, THREADS FILE. This is the first one.
@@ -27,7 +27,7 @@ pub enum WordsFault {
     PartAndOutput,
     /// FOLDER is missing.
     NoFolder,
-    /// A word is no text.
+    /// An argument is no text in UTF-8.
     NoText,
     /// `clap` refuses them: its own text.
     Wrong(String),
@@ -42,7 +42,7 @@ pub enum FolderFault {
     CannotMake(io::Error),
 }
 
-/// Why the output isn't written.
+/// Why the file of the results, or that of the list of skipped records, isn't written.
 #[derive(Debug, Drop)]
 pub enum OutputFault {
     /// There is something of that name that is no regular file.
@@ -53,10 +53,10 @@ pub enum OutputFault {
     CannotWrite(io::Error),
 }
 
-/// Why there is no answer. What the files of the slices keep stays: the same line resumes the job.
+/// Why there is no answer. What the files of the slices hold stays, so a later call resumes the job.
 #[derive(Debug, Drop, Error)]
 pub enum CsvJobError {
-    /// The words of the command line ask for nothing.
+    /// The arguments of the command line ask for nothing.
     #[error("the words of the command line ask for nothing")]
     Words(WordsFault),
     /// FOLDER isn't taken.
@@ -77,7 +77,7 @@ pub enum CsvJobError {
     /// The records aren't read, or the results not written.
     #[error("{0}")]
     Rows(RowsError),
-    /// The file of the results isn't written.
+    /// The file of the results, or that of the list of skipped records, isn't written.
     #[error("the output {path} isn't written")]
     Output { path: String, why: OutputFault },
     /// There are more than 2^64 - 1 records or slices.

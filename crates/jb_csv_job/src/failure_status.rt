@@ -1,4 +1,4 @@
-//! The exit status where a job has no answer.
+//! The exit status if a job has no answer.
 
 ghost use Rattle.std.specs.Prelude.{◌≡◌};
 ghost use Rattle.jb_csv_job.specs.Statuses.{failure_status, part_status, rows_status, run_status, step_status, store_status};
@@ -13,13 +13,13 @@ use jb_step::StepError;
 /// The same line won't help.
 const REFUSED: u8 = 3;
 
-/// The same line goes on once FOLDER/stop is removed.
+/// The same line resumes the job once FOLDER/stop is removed.
 const STOPPED: u8 = 2;
 
 /// The same line may help later.
 const LATER: u8 = 4;
 
-/// The words of the command line are wrong.
+/// The arguments of the command line are wrong.
 const WRONG_WORDS: u8 = 5;
 
 fn store_status(error: &StoreError) -> u8

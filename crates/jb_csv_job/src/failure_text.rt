@@ -1,4 +1,4 @@
-//! What a job reports where it has no answer.
+//! What a job reports if it has no answer.
 
 use crate::failure::{CsvJobError, FolderFault, OutputFault, WordsFault};
 use crate::path::SlicePath;
@@ -6,7 +6,7 @@ use crate::slice_text::{RunText, StoreText};
 use jb_rows::RowsError;
 use std::fmt;
 
-/// What is wrong with the words of the command line.
+/// What is wrong with the arguments of the command line.
 #[derive(Clone, Copy)]
 struct WordsText<'a, 'c> {
     name: &'a str,
@@ -79,7 +79,7 @@ impl<'b, 'c> fmt::Display for FolderText<'b, 'c> {
     }
 }
 
-/// Why the results aren't written to a file.
+/// Why the file of the results, or that of the list of skipped records, isn't written.
 #[derive(Clone, Copy)]
 struct OutputText<'a> {
     path: &'a str,
@@ -173,11 +173,11 @@ impl<'a> fmt::Display for RecordsText<'a> {
 /// Why a job has no answer, as it is reported: a text that begins with the name of the refusal.
 #[derive(Clone, Copy)]
 pub struct CsvJobErrorText<'a, 'b, 'c> {
-    /// The words of the job, as `CsvJob` has them.
+    /// The job's name, and the names of its input and records, as `CsvJob` has them.
     pub name: &'a str,
     pub input: &'a str,
     pub records: &'a str,
-    /// FOLDER. It is empty while the words of the command line aren't read.
+    /// FOLDER. It is empty as long as the arguments of the command line aren't read.
     pub folder: &'b str,
     pub failure: &'c CsvJobError,
 }

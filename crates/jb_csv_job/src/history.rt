@@ -8,12 +8,12 @@ use std::fs::File;
 use std::io::Write;
 use std::time::Clock;
 
-/// What a line of FOLDER/history.jsonl tells.
+/// What a line of FOLDER/history.jsonl says.
 #[derive(Clone, Copy)]
 pub(crate) enum Event<'a> {
     /// A run begins.
     Begin,
-    /// A checkpoint of a slice is kept. So many records of all slices so far are done, and have so many results.
+    /// A checkpoint of a slice is stored. So many records of all slices so far are done, and have so many results.
     Checkpoint {
         slice: u64,
         records: u64,

@@ -39,7 +39,8 @@ pub struct CsvJob<'a> {
     pub job_skip_limit: Option<u64>,
     /// How many retries a partition of a slice makes, at most 100,000.
     pub retry_limit: u64,
-    /// A text that the author changes with the function, as `1`. A slice that another stamp's function ran is refused, unless the call keeps that stamp.
+    /// A text that the author changes with the function, as `1`. A slice that another stamp's function ran is refused, unless the call keeps that
+    /// stamp.
     pub stamp: &'a str,
     pub ghost named: { IsName name.now },
     pub ghost some_records: { 1 ≤ slice_length },

@@ -9,6 +9,7 @@ use crate::keeper::Drops;
 use crate::opening::ready_folder;
 use crate::output::Output;
 use crate::run::{JobEnd, run_csv_job};
+use crate::skipped::{close_list, open_list};
 use crate::words::asked_of;
 use jb_rows::RowFunction;
 use std::io::Stdin;
@@ -30,16 +31,19 @@ fn answer_of<
         None => None,
     };
     let output = Output::open(host, path)?;
+    let list = open_list(host, asked)?;
     let mut keeper = Drops;
-    let (end, output) = run_csv_job::<F, T, Brand, Drops, Stdin, Output>(
+    let (end, output, list) = run_csv_job::<F, T, Brand, Drops, Stdin, Output, Output>(
         rt,
         job,
         asked,
         function,
         host.stdin(),
         output,
+        list,
         &mut keeper,
     )?;
+    close_list(host, list)?;
     output.close(host, end.status == 0)?;
     Ok(end)
 }

@@ -1,4 +1,4 @@
-//! Files of another kind, which are told apart before they are opened.
+//! Files of another kind, which are recognized before they are opened.
 
 use crate::folder::is_missing;
 use jb_slice_file::StoreError;
@@ -33,8 +33,8 @@ fn has_table(page: &[u8]) -> bool {
     }
 }
 
-/// Why a file isn't opened: it is no database, or one of another program, without a table of checkpoints. An open would leave a log beside it. Of a
-/// file that has a log, is empty or can't be read nothing is said here: its open says what is wrong.
+/// Why a file isn't opened: it is no database, or one of another program, without a table of checkpoints. An open would leave a log beside it. If a
+/// file has a log, is empty or can't be read, nothing is said here: its open says what is wrong.
 pub(crate) fn other_kind(host: &HostRuntime, path: &str) -> Option<StoreError> {
     let log = format!(in host.alloc(); "{path}-wal").ok()?;
     if !is_missing(host, log.as_str()) {

@@ -2,7 +2,7 @@
 
 ghost use Rattle.jb_csv_job.specs.SliceFiles.{LeftIsHeld};
 
-/// What a crash leaves of a slice's files is what the next call takes up.
+/// The next call can resume what a crash leaves of a slice's files.
 pub fn crashes_are_resumed()
     ensures { LeftIsHeld }
 {}

@@ -1,12 +1,13 @@
-//! A job over CSV, from the words of its command line to its exit status: records are read slice by slice, go through one function in a step
-//! whose checkpoints are kept in a file for each slice, and the results are written. Whatever ends it, the same line resumes it.
+//! A job over CSV, from the arguments of its command line to its exit status. Records are read slice by slice, and go through one function in a
+//! step. A file for each slice stores its checkpoints. The results are written slice by slice. After a crash the same line resumes the job.
 //!
 //! - `job`: what a job is. `job_main`: all of a `main`. `run`: a job over two streams; `next`: one slice after the other.
 //! - `words`, `command`, `line`, `values`, `asked`: the command line, and what it asks. `opening`: FOLDER is made.
-//! - `reading`: the records of a slice. `work`, `one_slice`: a slice over its file; `folder`, `path`: the file's path. `kinds`: files of another kind.
-//! - `giving`, `sink`, `output`: results to their taker. `tally`: what is kept from slice to slice.
+//! - `reading`: the records of a slice. `work`, `one_slice`: a slice over its file; `folder`, `path`: its path. `kinds`: files of another kind.
+//! - `giving`, `sink`, `output`: results to their taker. `tally`: what is counted from slice to slice.
 //! - `stored`, `keeper`: what files hold before and after, as contracts see it.
-//! - `report`, `progress`, `meter`: lines on standard error. `skipped`: the list of skipped records. `history`: the folder's history; `stopping`: the file that stops a job.
+//! - `report`, `progress`, `meter`: lines on standard error. `skipped`: the list of skipped records.
+//! - `history`: the folder's history. `stopping`: the file that stops a job.
 //! - `exit`: the status; `failure`: why there is no answer, with `failure_status`, `failure_text`, `slice_text` and `reason`.
 #![tactic(auto)]
 
@@ -64,5 +65,6 @@ pub use path::SlicePath;
 pub use report::Reporter;
 pub use run::{JobEnd, run_csv_job, run_slices};
 pub use sink::{CsvSink, Sink};
+pub use skipped::{begin_list, close_list, end_list, open_list};
 pub use stored::Stored;
 pub use words::asked_of;

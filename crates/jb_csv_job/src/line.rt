@@ -63,7 +63,7 @@ fn task_of(alloc: Global, matches: &ArgMatches<'_>) -> Result<Task, CsvJobError>
     }
 }
 
-/// A text of its own, if there is one.
+/// An owned copy of the text, if there is one.
 fn own_text(alloc: Global, text: Option<&str>) -> Result<Option<String>, CsvJobError>
     ensures text { IfOk result (λ own. option_map string_bytes own ≡ option_map (λ t. t.now) text.entry) }
     ensures memory { IfErr result (λ e. e ≡ CsvJobError.Memory) }
@@ -74,7 +74,7 @@ fn own_text(alloc: Global, text: Option<&str>) -> Result<Option<String>, CsvJobE
     }
 }
 
-/// Texts of their own.
+/// Owned copies of these texts.
 fn own_list(alloc: Global, texts: &[&str]) -> Result<Vec<String>, CsvJobError>
     ensures texts { IfOk result (λ own. map string_bytes own.items ≡ map (λ t. t.now) texts.now) }
     ensures memory { IfErr result (λ e. e ≡ CsvJobError.Memory) }
@@ -87,7 +87,7 @@ fn own_list(alloc: Global, texts: &[&str]) -> Result<Vec<String>, CsvJobError>
     Ok(own)
 }
 
-/// The stamps that are kept.
+/// The stamps of `--keep-stamp`.
 fn stamps_in(alloc: Global, matches: &ArgMatches<'_>) -> Result<Vec<String>, CsvJobError>
     ensures said { IfOk result (λ stamps. map string_bytes stamps.items ≡ unwrap_or (all_in matches.now (codes "keep-stamp")) []) }
     ensures memory { IfErr result (λ e. e ≡ CsvJobError.Memory) }

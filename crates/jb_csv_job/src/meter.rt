@@ -1,11 +1,11 @@
-//! How fast a job goes, and how long it takes still.
+//! How fast a job is, and how much longer it takes.
 
 use crate::host::Host;
 use jb_rows::numbers::number_of;
 use std::time::{Clock, Duration, Instant};
 use std::{fmt, fs};
 
-/// How much of a job is done, how many records it does in a second, and how many seconds it has taken and takes still: what is known of it.
+/// What is known of a job's pace: the share that is done, the records a second, and the seconds that have passed and that are left.
 #[derive(Clone, Copy)]
 pub(crate) struct PaceText {
     share: Option<u64>,
@@ -74,7 +74,7 @@ fn input_of(host: &HostRuntime) -> Option<(u64, u64)> {
     Some((read, found.len()))
 }
 
-/// About as many records as the input has, if so many are in the bytes that are read, of so many.
+/// About how many records the input has, if so many are in the first `read` of its `length` bytes.
 fn records_by_bytes(records: u64, read: u64, length: u64) -> Option<u64> {
     let parts = read
         .min(length)
@@ -89,7 +89,7 @@ fn millis(time: Duration) -> u64 {
         .saturating_add(time.subsec_millis() as u64)
 }
 
-/// How fast a job goes.
+/// How fast a job is.
 #[derive(Clone, Copy, Debug)]
 pub(crate) struct Meter {
     /// When the run began. None if the clock can't be read.

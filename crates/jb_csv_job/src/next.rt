@@ -8,11 +8,12 @@ ghost use Rattle.jb_rows.specs.Fields.{Fields, packed};
 ghost use Rattle.jb_rows.specs.Texts.{AreRowsOf};
 ghost use Rattle.jb_slice_run.specs.Step.{AreStampsOf};
 ghost use Rattle.jb_slices.specs.Function.{Function};
-ghost use Rattle.jb_slices.specs.Job.{HasSlice, slice_at};
+ghost use Rattle.jb_slices.specs.Job.{HasSlice, IsLastSlice, slice_at};
 ghost use Rattle.jb_slices.specs.Slice.{Functions};
 ghost use Rattle.jb_csv_job.specs.Job.{identity_of, job_record, stamps_of};
 ghost use Rattle.jb_csv_job.specs.SliceFiles.{HoldsSlice, image_by, slice_of};
-ghost use Rattle.jb_csv_job.specs.Loop.{AreDone, HasGoneOn, IsLeft, IsSliceOfText, StandsBefore};
+ghost use Rattle.jb_csv_job.specs.Loop.{AreDone, HasGoneOn, IsLeft, IsOver, IsSliceOfText, StandsBefore};
+ghost use Rattle.jb_csv_job.specs.Skipped.{AreListed, IfListed};
 ghost use Rattle.jb_csv_job.specs.Slices.{IsSliceEnd};
 ghost use Rattle.jb_csv_job.specs.Tasks.{is_own as is_own_of};
 
@@ -24,6 +25,7 @@ use crate::one_slice::kept_slice;
 use crate::reading::read_slice;
 use crate::report::Reporter;
 use crate::sink::Sink;
+use crate::skipped::list_slice;
 use crate::stored::Stored;
 use crate::tally::{Seam, Tally};
 use crate::work::Work;
@@ -48,6 +50,8 @@ fn settle<N: Sink>(
         → IsSliceEnd (job_record work.now.job.now work.now.asked.now f) number (slice_at (identity_of work.now.job.now) items number) end.now
         → (start : N) (taken : List (List ℕ)) → N.took start sink.old taken → AreDone (job_record work.now.job.now work.now.asked.now f) items number tally.old taken
         → IfOk result (λ more. (now : List (List ℕ)) × N.took start sink.new now × AreDone (job_record work.now.job.now work.now.asked.now f) items (suc number) tally.new now × (more ≡ false → tally.new.is_failed ≡ true)) }
+    ensures fine { IfOk result (λ _. tally.new.is_failed ≡ false → (tally.old.is_failed ≡ false) × (end.now.status ≡ Completed)) }
+    ensures over { IfOk result (λ more. more ≡ false → IsOver work.now.job.now.job_skip_limit tally.new.skips) }
     ensures kept { IfErr result (λ e. N.may_refuse e ⊎ (sink.new ≡ sink.old)) }
 {
     match tally.add(end, work.job.job_skip_limit)? {
@@ -69,6 +73,7 @@ pub(crate) fn next_slice<
     K: Keeper,
     R: Read + Drop,
     N: Sink,
+    L: Sink,
 >(
     rt: &T,
     work: &Work,
@@ -77,16 +82,17 @@ pub(crate) fn next_slice<
     reader: &mut RowsReader<R>,
     rows: &mut Rows,
     sink: &mut N,
+    list: &mut Option<L>,
     keeper: &mut K,
     reporter: &mut Reporter,
     tally: &mut Tally,
 ) -> Result<bool, CsvJobError>
-    // The reader goes on to the next slice.
+    // The reader is at the next slice.
     ensures reads { (text : List ℕ) (records : List Fields) → AreRowsOf work.now.job.now.options text records
         → StandsBefore (job_record work.now.job.now work.now.asked.now (F.answer (arc_value function.now))) R.remaining text records number reader.old
         → IfOk result (λ more. more ≡ true → StandsBefore (job_record work.now.job.now work.now.asked.now (F.answer (arc_value function.now))) R.remaining text records (suc number) reader.new) }
 
-    // And so does the job.
+    // And so is the job.
     ensures goes { IsTrue (K.are_clean keeper.new) → (functions : Functions) → AreStampsOf functions (F.answer (arc_value function.now)) (stamps_of work.now.job.now work.now.asked.now)
         → (text : List ℕ) (records : List Fields) → AreRowsOf work.now.job.now.options text records
         → StandsBefore (job_record work.now.job.now work.now.asked.now (F.answer (arc_value function.now))) R.remaining text records number reader.old
@@ -95,6 +101,21 @@ pub(crate) fn next_slice<
         → (start : N) (taken : List (List ℕ)) → N.took start sink.old taken
         → AreDone (job_record work.now.job.now work.now.asked.now (F.answer (arc_value function.now))) (map packed records) number tally.old taken
         → IfOk result (λ more. (now : List (List ℕ)) × N.took start sink.new now × HasGoneOn (job_record work.now.job.now work.now.asked.now (F.answer (arc_value function.now))) (map packed records) number tally.new now more) }
+
+    // There is no more only after the last slice, or where more were skipped than the job's limit.
+    ensures lasts { (text : List ℕ) (records : List Fields) → AreRowsOf work.now.job.now.options text records
+        → StandsBefore (job_record work.now.job.now work.now.asked.now (F.answer (arc_value function.now))) R.remaining text records number reader.old
+        → IfOk result (λ more. more ≡ false → IsLastSlice (identity_of work.now.job.now) (map packed records) number ⊎ IsOver work.now.job.now.job_skip_limit tally.new.skips) }
+
+    // The list, if there is one, has the rows of the slice too.
+    ensures lists { IsTrue (K.are_clean keeper.new) → (functions : Functions) → AreStampsOf functions (F.answer (arc_value function.now)) (stamps_of work.now.job.now work.now.asked.now)
+        → (text : List ℕ) (records : List Fields) → AreRowsOf work.now.job.now.options text records
+        → StandsBefore (job_record work.now.job.now work.now.asked.now (F.answer (arc_value function.now))) R.remaining text records number reader.old
+        → (is_own_of work.now.asked.now.task number ≡ true
+        → HoldsSlice (job_record work.now.job.now work.now.asked.now (F.answer (arc_value function.now))) functions number (slice_of (job_record work.now.job.now work.now.asked.now (F.answer (arc_value function.now))) records number) (image_by H.log H.db number))
+        → IfOk result (λ more. IfListed list.old list.new (λ old new. (start : L) (rows : List (List ℕ)) → L.took start old rows
+        → AreListed (job_record work.now.job.now work.now.asked.now (F.answer (arc_value function.now))) text records number tally.old.is_failed rows
+        → (now : List (List ℕ)) × L.took start new now × AreListed (job_record work.now.job.now work.now.asked.now (F.answer (arc_value function.now))) text records (suc number) tally.new.is_failed now)) }
 
     // After an error that isn't the sink's own it is as it was.
     ensures kept { IfErr result (λ e. N.may_refuse e ⊎ (sink.new ≡ sink.old)) }
@@ -113,6 +134,7 @@ pub(crate) fn next_slice<
     if !is_own(work.asked.task, number) {
         return Ok(!is_last);
     }
+    let items = rows.as_list();
     let end = kept_slice::<F, T, Brand, K>(
         rt,
         work,
@@ -120,16 +142,26 @@ pub(crate) fn next_slice<
         tally.results,
         reporter.meter(rt, work.asked.records, tally.records, is_last),
         function,
-        rows.as_list(),
+        items,
         keeper,
     )?;
+    let lines = reader.lines();
     reporter.report(
         rt,
         work.job,
         work.asked.folder.as_str(),
         number,
-        &*rows,
-        reader.lines(),
+        lines,
+        &end,
+    );
+    list_slice(
+        rt.host().alloc(),
+        work.job,
+        work.asked,
+        list,
+        number,
+        items,
+        lines,
         &end,
     )?;
     let goes_on = settle(work, &end, sink, tally)?;

@@ -169,8 +169,8 @@ fn is_collected(work: &Work) -> bool {
     matches!(work.asked.task, Task::Collect)
 }
 
-/// A connection to the file of the slice, which is made if there is none. One that is to be collected must be there. If FOLDER/stop is there, none
-/// is opened.
+/// A connection to the file of the slice, which is made if it isn't there. With `--collect` it must be there. If FOLDER/stop is there, no file is
+/// opened.
 fn opened<S: Start>(
     host: &HostRuntime,
     work: &Work,
@@ -207,8 +207,8 @@ fn opened<S: Start>(
     }
 }
 
-/// Runs the slice over the file at its path, which is made if there is none, or collects it; and its files, which are closed. `Err` only if
-/// the file isn't opened.
+/// Collects the slice, or runs it over the file at its path, which is made if it isn't there. Gives the slice's files too, closed. `Err` only if the
+/// file isn't opened.
 pub(crate) fn run_slice_at<
     F: RowFunction + Drop + 'static,
     T: Threads + Wait + Clock + Eprint + Host + Copy + Send + Sync + 'static,

@@ -1,4 +1,4 @@
-//! Where the results are written.
+//! Where the results are written, and the list of skipped records.
 
 ghost use Rattle.std.specs.Prelude.{◌≡◌};
 ghost use Rattle.jb_csv_job.specs.declared.failure.OutputFault.TheVariants.{CannotWrite};
@@ -33,7 +33,8 @@ enum Target {
     File(PartFile),
 }
 
-/// Where the results are written: standard output, or PATH.part, which becomes PATH once the job is COMPLETED.
+/// Where the results are written: standard output, or PATH.part, which becomes PATH once the job is COMPLETED. The list of skipped records is such a
+/// file too, which becomes PATH once the job is COMPLETED or FAILED.
 #[derive(Drop)]
 pub struct Output {
     to: Target,
@@ -114,7 +115,7 @@ impl Output {
         Ok(Output { to })
     }
 
-    /// PATH.part becomes PATH, if the job is COMPLETED: it is synced, and then renamed. Else it stays PATH.part, and a next call begins it
+    /// PATH.part becomes PATH, if it is completed: it is synced, and then renamed. Else it stays PATH.part, and a next call begins it
     /// again.
     ///
     /// # Errors

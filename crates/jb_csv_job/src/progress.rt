@@ -47,9 +47,9 @@ pub(crate) fn clear_line<T: Eprint + Host>(rt: &T) {
     }
 }
 
-/// Reports on standard error, at each checkpoint of a slice, how many records of all slices so far are done, how many results there are, the share
-/// that is done, and the pace: in one line that is written over, if it is a terminal, else in a line a checkpoint. It keeps the checkpoint in the
-/// folder's history. The slice goes on until FOLDER/stop is there.
+/// Reports on standard error, at each checkpoint of a slice, the records done and the results of all slices so far, the share that is done, and the
+/// pace. On a terminal it is one line, which is written over, else a line for each checkpoint. It writes the checkpoint to the folder's history. The
+/// slice continues until FOLDER/stop is there.
 #[derive(Drop)]
 pub(crate) struct StderrProgress<'a, T> {
     pub rt: T,
@@ -63,7 +63,7 @@ pub(crate) struct StderrProgress<'a, T> {
     /// How many records of earlier slices are done, and how many results they have.
     pub records_before: u64,
     pub results_before: u64,
-    /// How many records of the slice were done at its last checkpoint that was told.
+    /// How many records of the slice were done at its last reported checkpoint.
     pub listener: Option<u64>,
     pub meter: &'a mut Meter,
 }

@@ -3,16 +3,12 @@
 ghost use Rattle.std.specs.Prelude.{◌≡◌, ◌+◌, ◌≤◌, length, OnOk};
 ghost use Rattle.jb_csv_job.specs.Reports.{line_at, named_skips};
 
-use crate::asked::Asked;
-use crate::failure::CsvJobError;
 use crate::history::{Event, note, skips_by_class};
 use crate::host::Host;
 use crate::job::CsvJob;
 use crate::meter::Meter;
 use crate::progress::clear_line;
-use crate::skipped::{SkipList, SliceRecords};
 use jb_answers::{FaultClass, name_of};
-use jb_rows::Rows;
 use jb_slice_run::{Fault, PartitionFailure, SliceEnd};
 use std::fmt;
 use std::time::Clock;
@@ -114,35 +110,21 @@ fn named_of(before: u64, skips: &[Fault]) -> &[Fault]
 }
 
 /// Reports on standard error which records were skipped, and which failed. The first ten skipped ones of the job are named, and the others
-/// counted. With `--skipped` it lists all of them too, in a file.
+/// counted.
 #[derive(Drop)]
 pub struct Reporter {
-    list: Option<SkipList>,
     /// How many records were skipped so far.
     skips: u64,
     meter: Meter,
 }
 
 impl Reporter {
-    /// Of a run that begins now. `header` is the header row of the input, if there is one.
-    ///
-    /// # Errors
-    /// `Output`: the file of `--skipped` isn't written. `Memory`.
-    pub fn open<T: Host + Clock>(
-        rt: &T,
-        job: &CsvJob,
-        asked: &Asked,
-        header: &Rows,
-    ) -> Result<Reporter, CsvJobError> {
-        let list = match &asked.skipped {
-            Some(path) => Some(SkipList::open(rt.host(), job, header, path.as_str())?),
-            None => None,
-        };
-        Ok(Reporter {
-            list,
+    /// Of a run that begins now.
+    pub fn new<T: Clock>(rt: &T) -> Reporter {
+        Reporter {
             skips: 0,
             meter: Meter::new(rt),
-        })
+        }
     }
 
     /// The meter of the run, if so many records are read, perhaps all, and so many are said to be there.
@@ -157,20 +139,16 @@ impl Reporter {
         &mut self.meter
     }
 
-    /// Reports the end of a slice, and keeps it in the history of FOLDER. `lines` has the line of each of its records.
-    ///
-    /// # Errors
-    /// `Output`: the file of `--skipped` isn't written. `Memory`.
+    /// Reports the end of a slice, and writes it to the history of FOLDER. `lines` has the line of each of its records.
     pub fn report<T: Eprint + Host>(
         &mut self,
         rt: &T,
         job: &CsvJob,
         folder: &str,
         slice: u64,
-        records: &Rows,
         lines: &[u64],
         end: &SliceEnd,
-    ) -> Result<(), CsvJobError> {
+    ) {
         note_slice(rt.host(), job, folder, slice, end);
         clear_line(rt);
         let first = slice.saturating_mul(job.slice_length);
@@ -180,36 +158,16 @@ impl Reporter {
                 line: line_at(lines, first, fault.number),
                 class: name_of(job.classes, fault.class),
             };
-            let _told = eprintln!(rt; "{text}");
+            let _reported = eprintln!(rt; "{text}");
         }
         self.skips = self.skips.saturating_add(end.skips.len() as u64);
         for failure in &end.failures {
             report_failure(rt, job.classes, slice, first, lines, failure);
         }
-        match &mut self.list {
-            Some(list) => {
-                let of = SliceRecords {
-                    records: records.as_list(),
-                    lines,
-                    first,
-                };
-                list.write(
-                    rt.host().alloc(),
-                    job.classes,
-                    &of,
-                    &end.skips,
-                    &end.failures,
-                )
-            }
-            None => Ok(()),
-        }
     }
 
-    /// Reports how many skipped records weren't named. The file of `--skipped` gets its name.
-    ///
-    /// # Errors
-    /// `Output`.
-    pub fn finish<T: Eprint + Host>(&mut self, rt: &T, job: &CsvJob) -> Result<(), CsvJobError> {
+    /// Reports how many skipped records weren't named.
+    pub fn finish<T: Eprint + Host>(&self, rt: &T, job: &CsvJob) {
         let others = self.skips.saturating_sub(MOST_NAMED);
         if others > 0 {
             clear_line(rt);
@@ -217,16 +175,12 @@ impl Reporter {
                 others,
                 records: job.records,
             };
-            let _told = eprintln!(rt; "{text}");
-        }
-        match self.list.take() {
-            Some(list) => list.close(rt.host()),
-            None => Ok(()),
+            let _reported = eprintln!(rt; "{text}");
         }
     }
 }
 
-/// Keeps the end of a slice in the history of FOLDER.
+/// Writes the end of a slice to the history of FOLDER.
 fn note_slice(host: &HostRuntime, job: &CsvJob, folder: &str, slice: u64, end: &SliceEnd) {
     if let Ok(skips) = skips_by_class(host.alloc(), job.classes, &end.skips) {
         let event = Event::Slice {
@@ -254,5 +208,5 @@ fn report_failure<T: Eprint>(
         line: line_at(lines, first, failure.fault.number),
         class: name_of(classes, failure.fault.class),
     };
-    let _told = eprintln!(rt; "{text}");
+    let _reported = eprintln!(rt; "{text}");
 }

@@ -10,6 +10,7 @@ ghost use Rattle.jb_csv_job.specs.Done.{HasEnded, HasSkipped, HasTakenAll, HasTa
 ghost use Rattle.jb_csv_job.specs.Job.{job_record, stamps_of};
 ghost use Rattle.jb_csv_job.specs.SliceFiles.{HoldsSlice, CanResumeJob, KeepsOwn, LeavesSlice, image_by};
 ghost use Rattle.jb_csv_job.specs.Loop.{IfJobResumes, IsLeftOfAny};
+ghost use Rattle.jb_csv_job.specs.Skipped.{HasListed, IfListed, IsListWritten};
 
 use crate::asked::Asked;
 use crate::failure::CsvJobError;
@@ -19,6 +20,7 @@ use crate::keeper::Keeper;
 use crate::next::next_slice;
 use crate::report::Reporter;
 use crate::sink::{CsvSink, Sink};
+use crate::skipped::{begin_list, end_list};
 use crate::stored::Stored;
 use crate::tally::Tally;
 use crate::work::{Work, name_of, names_of, texts_of, work_of};
@@ -52,16 +54,20 @@ fn all_slices<
     K: Keeper,
     R: Read + Drop,
     N: Sink,
+    L: Sink,
 >(
     rt: &T,
     work: &Work,
     function: &Arc<F, Global>,
     reader: &mut RowsReader<R>,
     sink: &mut N,
+    list: &mut Option<L>,
     keeper: &mut K,
 ) -> Result<JobEnd, CsvJobError>
     ensures ends { IsTrue (K.are_clean keeper.new) → IfJobResumes (job_record work.now.job.now work.now.asked.now (F.answer (arc_value function.now))) R.remaining reader.old H.log H.db (λ functions text.
         IfOk result (λ end. HasEnded (job_record work.now.job.now work.now.asked.now (F.answer (arc_value function.now))) (Some text) (N.took sink.old sink.new) end.status end.skips)) }
+    ensures lists { IsTrue (K.are_clean keeper.new) → IfJobResumes (job_record work.now.job.now work.now.asked.now (F.answer (arc_value function.now))) R.remaining reader.old H.log H.db (λ functions text.
+        IfOk result (λ end. IfListed list.old list.new (λ old new. HasListed (job_record work.now.job.now work.now.asked.now (F.answer (arc_value function.now))) (Some text) (L.took old new) end.status end.skips))) }
     ensures so_far { IsTrue (K.are_clean keeper.new) → IfJobResumes (job_record work.now.job.now work.now.asked.now (F.answer (arc_value function.now))) R.remaining reader.old H.log H.db (λ functions text.
         MatchResult result (λ end. HasTakenSoFar (job_record work.now.job.now work.now.asked.now (F.answer (arc_value function.now))) (Some text) (N.took sink.old sink.new)) (λ e. N.may_refuse e ⊎ HasTakenSoFar (job_record work.now.job.now work.now.asked.now (F.answer (arc_value function.now))) (Some text) (N.took sink.old sink.new))) }
     ensures status { IfOk result (λ end. (end.status ≡ 0) ⊎ (end.status ≡ 1)) }
@@ -74,10 +80,10 @@ fn all_slices<
         → IsLeftOfAny (job_record work.now.job.now work.now.asked.now (F.answer (arc_value function.now))) functions (image_by H.log H.db) (K.may_leave keeper.old k items image) k items image }
 {
     let mut rows = Rows::new(rt.host().alloc());
-    let mut reporter = Reporter::open(rt, work.job, work.asked, reader.header())?;
+    let mut reporter = Reporter::new(rt);
     let mut tally = Tally::new();
     for number in 0..u64::MAX {
-        let more = match next_slice::<F, T, H, K, R, N>(
+        let more = match next_slice::<F, T, H, K, R, N, L>(
             rt,
             work,
             number,
@@ -85,6 +91,7 @@ fn all_slices<
             reader,
             &mut rows,
             sink,
+            list,
             keeper,
             &mut reporter,
             &mut tally,
@@ -93,21 +100,22 @@ fn all_slices<
             Err(failure) => return Err(failure),
         };
         if !more {
-            reporter.finish(rt, work.job)?;
+            reporter.finish(rt, work.job);
             return Ok(tally.end());
         }
     }
     Err(CsvJobError::TooMany)
 }
 
-/// Reads the records, slice by slice, and runs each slice over its file from its last checkpoint on, or collects it; and gives its results to
-/// the sink before the next slice is read. It has in memory what one slice takes, however many there are. Where a slice fails, later ones still
-/// run, but no result more is given to the sink, and the job ends FAILED. After each slice it ends FAILED too if more records were skipped than
-/// the job's limit. Where there is no answer, what the files keep stays.
+/// Reads the records, slice by slice. It runs each slice over its file from its last checkpoint on, or collects it. It lists what the slice
+/// skipped, if there is a list, and gives its results to the sink before the next slice is read. It has one slice in memory, however many there
+/// are. Where a slice fails, later ones still run, but no result more is given to the sink, and the job ends FAILED. After each slice it ends
+/// FAILED too if more records were skipped than the job's limit. Where there is no answer, what the files hold stays.
 ///
 /// # Errors
-/// `File` and `Slice`, of a slice's file and of its run; `NotWhole`, where a slice is to be collected; `Rows`, of the records; `Records`, where
-/// there are others in number than asked; `TooMany`; `Memory`; and those of the sink.
+/// - `File` and `Slice`, of a slice's file and of its run. `NotWhole`, where a slice is to be collected.
+/// - `Rows`, of the records. `Records`: there are others in number than asked.
+/// - `TooMany`, `Memory`, and those of the sink and of the list.
 pub fn run_slices<
     F: RowFunction + Drop + 'static,
     T: Threads + Wait + Clock + Eprint + Host + Copy + Send + Sync + 'static,
@@ -115,6 +123,7 @@ pub fn run_slices<
     K: Keeper,
     R: Read + Drop,
     N: Sink,
+    L: Sink,
 >(
     rt: &T,
     job: &CsvJob,
@@ -122,6 +131,7 @@ pub fn run_slices<
     function: F,
     reader: &mut RowsReader<R>,
     sink: &mut N,
+    list: &mut Option<L>,
     keeper: &mut K,
 ) -> Result<JobEnd, CsvJobError>
     // With status 0 the sink took the results of all records, whatever earlier runs the files are of.
@@ -133,13 +143,17 @@ pub fn run_slices<
         MatchResult result (λ end. HasTakenSoFar (job_record job.now asked.now (F.answer function)) (Some text) (N.took sink.old sink.new))
         (λ e. N.may_refuse e ⊎ HasTakenSoFar (job_record job.now asked.now (F.answer function)) (Some text) (N.took sink.old sink.new))) }
 
-    // The status is by the job's rules, whatever was kept and however many runs it took.
+    // The status is by the job's rules, whatever was stored and however many runs it took.
     ensures by_rules { IsTrue (K.are_clean keeper.new) → IfJobResumes (job_record job.now asked.now (F.answer function)) R.remaining reader.old H.log H.db (λ functions text.
         IfOk result (λ end. IsByRules (job_record job.now asked.now (F.answer function)) (Some text) end.status)) }
 
     // With status 0 it counts the records that have a fault.
     ensures skips { IsTrue (K.are_clean keeper.new) → IfJobResumes (job_record job.now asked.now (F.answer function)) R.remaining reader.old H.log H.db (λ functions text.
         IfOk result (λ end. end.status ≡ 0 → HasSkipped (job_record job.now asked.now (F.answer function)) (Some text) end.skips)) }
+
+    // The list, if there is one, took a row for each record that was skipped; and of FAILED slices those by which partitions failed.
+    ensures listed { IsTrue (K.are_clean keeper.new) → IfJobResumes (job_record job.now asked.now (F.answer function)) R.remaining reader.old H.log H.db (λ functions text.
+        IfOk result (λ end. IfListed list.old list.new (λ old new. HasListed (job_record job.now asked.now (F.answer function)) (Some text) (L.took old new) end.status end.skips))) }
 
     // It is 0 or 1.
     ensures status { IfOk result (λ end. (end.status ≡ 0) ⊎ (end.status ≡ 1)) }
@@ -164,14 +178,15 @@ pub fn run_slices<
     let stamps = texts_of(alloc, asked.stamps.as_slice())?;
     let function = Arc::new(alloc, function)?;
     let work = work_of(&name, classes.as_slice(), stamps.as_slice(), &*job, &*asked);
-    all_slices::<F, T, H, K, R, N>(rt, &work, &function, reader, sink, keeper)
+    all_slices::<F, T, H, K, R, N, L>(rt, &work, &function, reader, sink, list, keeper)
 }
 
-/// `run_slices` with the records of a stream, and writes the results to another one, each a line, after the header row if it is copied. Gives
-/// the stream back that they were written to. A part writes nothing.
+/// `run_slices` with the records of a stream, and writes the results to another one, each a line, after the header row if it is copied. A part
+/// writes nothing. With a third stream it lists there the records that were skipped, and those by which partitions failed. Gives back the streams
+/// that were written to.
 ///
 /// # Errors
-/// Those of `run_slices`, and `Rows`, of either stream.
+/// Those of `run_slices`; `Rows`, of the records or of the results; and `Output`, of the list.
 pub fn run_csv_job<
     F: RowFunction + Drop + 'static,
     T: Threads + Wait + Clock + Eprint + Host + Copy + Send + Sync + 'static,
@@ -179,6 +194,7 @@ pub fn run_csv_job<
     K: Keeper,
     R: Read + Drop,
     W: Write + Drop,
+    S: Write + Drop,
 >(
     rt: &T,
     job: &CsvJob,
@@ -186,8 +202,9 @@ pub fn run_csv_job<
     function: F,
     from: R,
     to: W,
+    list: Option<S>,
     keeper: &mut K,
-) -> Result<(JobEnd, W), CsvJobError>
+) -> Result<(JobEnd, W, Option<S>), CsvJobError>
     // With status 0 what was written are the results of all records, whatever earlier runs the files are of.
     ensures all { IsTrue (K.are_clean keeper.new) → (functions : Functions) → CanResumeJob (job_record job.now asked.now (F.answer function)) functions (R.remaining from) H.log H.db
         → IfOk result (λ r. r.0.status ≡ 0 → IsJobDone (job_record job.now asked.now (F.answer function)) (R.remaining from) (W.contents to) (W.contents r.1)) }
@@ -196,13 +213,17 @@ pub fn run_csv_job<
     ensures so_far { IsTrue (K.are_clean keeper.new) → (functions : Functions) → CanResumeJob (job_record job.now asked.now (F.answer function)) functions (R.remaining from) H.log H.db
         → IfOk result (λ r. IsDoneSoFar (job_record job.now asked.now (F.answer function)) (R.remaining from) (W.contents to) (W.contents r.1)) }
 
-    // The status is by the job's rules, whatever was kept and however many runs it took.
+    // The status is by the job's rules, whatever was stored and however many runs it took.
     ensures by_rules { IsTrue (K.are_clean keeper.new) → (functions : Functions) → CanResumeJob (job_record job.now asked.now (F.answer function)) functions (R.remaining from) H.log H.db
         → IfOk result (λ r. IsByRules (job_record job.now asked.now (F.answer function)) (R.remaining from) r.0.status) }
 
     // With status 0 it counts the records that have a fault.
     ensures skips { IsTrue (K.are_clean keeper.new) → (functions : Functions) → CanResumeJob (job_record job.now asked.now (F.answer function)) functions (R.remaining from) H.log H.db
         → IfOk result (λ r. r.0.status ≡ 0 → HasSkipped (job_record job.now asked.now (F.answer function)) (R.remaining from) r.0.skips) }
+
+    // The list, if there is one, has a row for each record that was skipped; and of FAILED slices for each by which a partition failed.
+    ensures listed { IsTrue (K.are_clean keeper.new) → (functions : Functions) → CanResumeJob (job_record job.now asked.now (F.answer function)) functions (R.remaining from) H.log H.db
+        → IfOk result (λ r. IfListed list r.2 (λ old new. IsListWritten (job_record job.now asked.now (F.answer function)) (R.remaining from) (S.contents old) (S.contents new) r.0.status r.0.skips)) }
 
     // It is 0 or 1.
     ensures status { IfOk result (λ r. (r.0.status ≡ 0) ⊎ (r.0.status ≡ 1)) }
@@ -225,15 +246,18 @@ pub fn run_csv_job<
     let mut reader = RowsReader::new(alloc, &job.options, from)?;
     let mut sink = CsvSink::new(alloc, &job.options, to);
     sink.write_header(asked.task, &job.options, &reader)?;
-    let end = run_slices::<F, T, H, K, R, CsvSink<W>>(
+    let mut listing = begin_list(alloc, job, asked, &reader, list)?;
+    let end = run_slices::<F, T, H, K, R, CsvSink<W>, CsvSink<S>>(
         rt,
         job,
         asked,
         function,
         &mut reader,
         &mut sink,
+        &mut listing,
         keeper,
     )?;
     let to = sink.finish()?;
-    Ok((end, to))
+    let listed = end_list(alloc, asked, listing)?;
+    Ok((end, to, listed))
 }

@@ -1,4 +1,4 @@
-//! Who takes the results of slices.
+//! Who takes the results of slices, or the rows of the list of skipped records.
 
 ghost use Rattle.std.specs.Prelude.{◌++◌, ℕ, [], List, IfErr, IfOk, OnOk};
 ghost use Rattle.std.specs.Io.KnownBytes.{Appends, Keeps};
@@ -13,7 +13,7 @@ use jb_rows::{RowsOptions, RowsReader, RowsWriter, copy_header};
 use std::alloc::Global;
 use std::io::{Read, Write};
 
-/// Who takes the results of slices: those of a slice once it is whole, one slice after the other.
+/// Who takes the results of slices, or the rows of the list of skipped records: those of a slice once it has ended, one slice after the other.
 pub trait Sink {
     ghost use Rattle.jb_csv_job.specs.declared.failure.CsvJobError.{CsvJobError};
 
@@ -31,7 +31,7 @@ pub trait Sink {
     ghost none: { (s : Self) → took s s [] };
 }
 
-/// Writes the results, each a line of CSV.
+/// Writes the results, or the rows of the list, each a line of CSV.
 #[derive(Drop)]
 pub struct CsvSink<W: Write + Drop> {
     writer: RowsWriter<W>,

@@ -1,25 +1,31 @@
 //! The list of the records that were skipped, and of those by which partitions failed.
 
-ghost use Rattle.std.specs.Prelude.{◌≡◌, ◌++◌, ◌∷◌, ◌⊎◌, ℕ, [], codes, decimal, map, IfOk, OnOk};
-ghost use Rattle.std.specs.Io.KnownBytes.{Appends};
+ghost use Rattle.std.specs.Prelude.{◌≡◌, ◌++◌, ◌*◌, ◌∷◌, ◌⊎◌, ℕ, [], codes, decimal, map, IfOk, List, OnOk};
+ghost use Rattle.std.specs.Io.KnownBytes.{Appends, Keeps};
 ghost use Rattle.std.specs.List.Sorted.{IsNonDecreasingBy, IsPermutation};
 ghost use Rattle.jb_answers.specs.Classes.{class_name};
+ghost use Rattle.jb_collect.specs.declared.calls.Status.TheVariants.{Completed};
 ghost use Rattle.jb_rows.specs.Fields.{fields_in};
-ghost use Rattle.jb_rows.specs.Streams.{IsBetweenRows, csv_rows, rows_written};
+ghost use Rattle.jb_rows.specs.Streams.{csv_rows, kept_header};
 ghost use Rattle.jb_rows.specs.Texts.{copied_by};
+ghost use Rattle.jb_csv_job.specs.Job.{identity_of};
 ghost use Rattle.jb_csv_job.specs.Reports.{line_at};
-ghost use Rattle.jb_csv_job.specs.Skipped.{record_bytes, skipped_header, skipped_row};
+ghost use Rattle.jb_csv_job.specs.Sinks.{IsBetweenLines, lines_written};
+ghost use Rattle.jb_csv_job.specs.Skipped.{IfListed, IsSliceListed, record_bytes, skipped_header, skipped_row};
 
+use crate::asked::Asked;
 use crate::failure::{CsvJobError, OutputFault};
 use crate::job::CsvJob;
 use crate::output::Output;
 use crate::report::line_at;
+use crate::sink::{CsvSink, Sink};
 use jb_answers::{FaultClass, name_of};
 use jb_base::PackedList;
-use jb_rows::{Header, RowBuilder, Rows, RowsError, RowsWriter};
-use jb_slice_run::{Fault, PartitionFailure};
+use jb_collect::Status;
+use jb_rows::{Header, RowBuilder, Rows, RowsError, RowsReader};
+use jb_slice_run::{Fault, PartitionFailure, SliceEnd};
 use std::alloc::{AllocError, Global};
-use std::io::Write;
+use std::io::{Read, Write};
 
 /// The records of a slice, with what is said of them.
 #[derive(Clone, Copy)]
@@ -32,28 +38,46 @@ pub(crate) struct SliceRecords<'a> {
     pub first: u64,
 }
 
-/// The faults of a slice that are listed: those that it skipped, and those by which partitions failed, in the order of their records.
-fn listed_faults(
+/// The faults that a slice skipped, and those by which partitions failed, in the order of their records.
+fn all_faults(
     alloc: Global,
     skips: &[Fault],
     failures: &[PartitionFailure],
 ) -> Result<Vec<Fault>, AllocError>
     ensures all { IfOk result (λ listed. IsPermutation (skips.now ++ map (λ one. one.fault) failures.now) listed.items) }
-    ensures same { IfOk result (λ listed. failures.now ≡ [] → listed.items ≡ skips.now) }
-    ensures rising { IfOk result (λ listed. failures.now ≡ [] ⊎ IsNonDecreasingBy (λ fault. fault.number) listed.items) }
+    ensures rising { IfOk result (λ listed. IsNonDecreasingBy (λ fault. fault.number) listed.items) }
 {
     let mut listed = Vec::new(alloc);
     for fault in skips {
         listed.push(*fault)?;
-    }
-    if failures.is_empty() {
-        return Ok(listed);
     }
     for failure in failures {
         listed.push(failure.fault)?;
     }
     listed.sort_by_key(|fault| fault.number)?;
     Ok(listed)
+}
+
+/// The faults that a slice skipped.
+fn skipped_faults(alloc: Global, skips: &[Fault]) -> Result<Vec<Fault>, AllocError>
+    ensures { IfOk result (λ listed. listed.items ≡ skips.now) }
+{
+    let mut listed = Vec::new(alloc);
+    for fault in skips {
+        listed.push(*fault)?;
+    }
+    Ok(listed)
+}
+
+/// The faults of a slice that are listed: those that it skipped, and of a FAILED one those by which partitions failed too.
+fn faults_of(alloc: Global, end: &SliceEnd) -> Result<Vec<Fault>, AllocError>
+    ensures skipped { IfOk result (λ listed. end.now.status ≡ Completed → listed.items ≡ end.now.skips.items) }
+    ensures failed { IfOk result (λ listed. (end.now.status ≡ Completed) ⊎ (IsPermutation (end.now.skips.items ++ map (λ one. one.fault) end.now.failures.items) listed.items × IsNonDecreasingBy (λ fault. fault.number) listed.items)) }
+{
+    match end.status {
+        Status::Completed => skipped_faults(alloc, &end.skips),
+        _ => all_faults(alloc, &end.skips, &end.failures),
+    }
 }
 
 /// The fields that come before those of the record itself: its number, its line and its class.
@@ -131,82 +155,131 @@ fn header_row(alloc: Global, kind: Header, header: &Rows) -> Result<PackedList, 
     }
 }
 
-/// Writes a line for each of these faults, after the others.
-fn write_skips<W: Write + Drop>(
-    alloc: Global,
-    writer: &mut RowsWriter<W>,
-    classes: &[FaultClass],
-    of: &SliceRecords,
-    faults: &[Fault],
-) -> Result<(), RowsError>
-    ensures { OnOk result ((delimiter : ℕ) → IsBetweenRows delimiter writer.old → IsBetweenRows delimiter writer.new
-        × Appends (rows_written W.contents writer.old) (rows_written W.contents writer.new)
-        (csv_rows delimiter (map (skipped_row classes.now of.now.records.now of.now.lines.now of.now.first) faults.now))) }
-{
-    let rows = rows_of(alloc, classes, of, faults)?;
-    writer.write_packed(&rows)
-}
-
-/// The list, in PATH.part until it is whole.
-#[derive(Drop)]
-pub(crate) struct SkipList {
-    writer: RowsWriter<Output>,
-    path: String,
-}
-
-impl SkipList {
-    /// In PATH.part, which is made. It has its header row, if the one of the input is copied.
-    pub(crate) fn open(
-        host: &HostRuntime,
-        job: &CsvJob,
-        header: &Rows,
-        path: &str,
-    ) -> Result<SkipList, CsvJobError> {
-        let alloc = host.alloc();
-        let output = Output::open(host, Some(path))?;
-        let mut list = SkipList {
-            writer: RowsWriter::new(alloc, &job.options, output),
-            path: path.to_string(alloc)?,
-        };
-        let rows = header_row(alloc, job.options.header, header)?;
-        match list.writer.write_packed(&rows) {
-            Ok(()) => Ok(list),
-            Err(error) => Err(write_failure(list.path, error)),
-        }
-    }
-
-    /// Writes a line for each record of the slice that was skipped, or by which a partition failed.
-    pub(crate) fn write(
-        &mut self,
-        alloc: Global,
-        classes: &[FaultClass],
-        of: &SliceRecords,
-        skips: &[Fault],
-        failures: &[PartitionFailure],
-    ) -> Result<(), CsvJobError> {
-        let faults = listed_faults(alloc, skips, failures)?;
-        match write_skips(alloc, &mut self.writer, classes, of, &faults) {
-            Ok(()) => Ok(()),
-            Err(error) => Err(write_failure(self.path.to_string(alloc)?, error)),
-        }
-    }
-
-    /// The list is whole: PATH.part becomes PATH.
-    pub(crate) fn close(self, host: &HostRuntime) -> Result<(), CsvJobError> {
-        match self.writer.finish() {
-            Ok(output) => output.close(host, true),
-            Err(error) => Err(write_failure(self.path, error)),
-        }
-    }
-}
-
-/// Why the list isn't written.
-fn write_failure(path: String, error: RowsError) -> CsvJobError {
-    match error {
-        RowsError::Stream(error) => CsvJobError::Output {
+/// Why the list isn't written: a failure of its stream names its path.
+fn list_failure(alloc: Global, asked: &Asked, error: CsvJobError) -> CsvJobError {
+    let error = match error {
+        CsvJobError::Rows(RowsError::Stream(error)) => error,
+        other => return other,
+    };
+    match asked
+        .skipped
+        .as_deref()
+        .unwrap_or("the list")
+        .to_string(alloc)
+    {
+        Ok(path) => CsvJobError::Output {
             path,
             why: OutputFault::CannotWrite(error),
         },
-        error => CsvJobError::Rows(error),
+        Err(error) => CsvJobError::from(error),
+    }
+}
+
+/// The number of a slice's first record.
+fn first_record(job: &CsvJob, number: u64) -> Result<u64, CsvJobError>
+    ensures { IfOk result (λ first. first ≡ number * job.now.slice_length) }
+{
+    match number.checked_mul(job.slice_length) {
+        Some(first) => Ok(first),
+        None => Err(CsvJobError::TooMany),
+    }
+}
+
+/// Lists a slice that ended, if there is a list: a row for each record that it skipped and, if it FAILED, for each by which a partition failed.
+pub(crate) fn list_slice<L: Sink>(
+    alloc: Global,
+    job: &CsvJob,
+    asked: &Asked,
+    list: &mut Option<L>,
+    number: u64,
+    records: &PackedList,
+    lines: &[u64],
+    end: &SliceEnd,
+) -> Result<(), CsvJobError>
+    ensures { OnOk result (IfListed list.old list.new (λ old new. (start : L) (before : List (List ℕ)) → L.took start old before
+        → (rows : List (List ℕ)) × L.took start new (before ++ rows) × IsSliceListed (identity_of job.now).classes.names records.now lines.now (number * job.now.slice_length) end.now rows)) }
+{
+    match list {
+        Some(list) => {
+            let of = SliceRecords {
+                records,
+                lines,
+                first: first_record(job, number)?,
+            };
+            let faults = faults_of(alloc, end)?;
+            let rows = rows_of(alloc, job.classes, &of, &faults)?;
+            match list.take(&rows) {
+                Ok(()) => Ok(()),
+                Err(error) => Err(list_failure(alloc, asked, error)),
+            }
+        }
+        None => Ok(()),
+    }
+}
+
+/// A list over this stream, if there is one: with its header row, if the one of the input is copied.
+///
+/// # Errors
+/// `Output`: the list isn't written. `Memory`.
+pub fn begin_list<S: Write + Drop, R: Read>(
+    alloc: Global,
+    job: &CsvJob,
+    asked: &Asked,
+    reader: &RowsReader<R>,
+    to: Option<S>,
+) -> Result<Option<CsvSink<S>>, CsvJobError>
+    ensures { IfOk result (λ list. IfListed to list (λ old new. IsBetweenLines job.now.options.delimiter new
+        × Appends (S.contents old) (lines_written S.contents new) (csv_rows job.now.options.delimiter (map skipped_header (copied_by job.now.options.header (kept_header reader.now)))))) }
+{
+    let Some(to) = to else {
+        return Ok(None);
+    };
+    let mut list = CsvSink::new(alloc, &job.options, to);
+    let rows = header_row(alloc, job.options.header, reader.header())?;
+    match list.take(&rows) {
+        Ok(()) => Ok(Some(list)),
+        Err(error) => Err(list_failure(alloc, asked, error)),
+    }
+}
+
+/// The stream of a list, if there is one, after all its rows.
+///
+/// # Errors
+/// `Output`: the list isn't written. `Memory`.
+pub fn end_list<S: Write + Drop>(
+    alloc: Global,
+    asked: &Asked,
+    list: Option<CsvSink<S>>,
+) -> Result<Option<S>, CsvJobError>
+    ensures { IfOk result (λ to. IfListed list to (λ old new. Keeps (lines_written S.contents old) (S.contents new))) }
+{
+    let Some(list) = list else {
+        return Ok(None);
+    };
+    match list.finish() {
+        Ok(to) => Ok(Some(to)),
+        Err(error) => Err(list_failure(alloc, asked, error)),
+    }
+}
+
+/// The file of `--skipped`, if it is asked for: PATH.part, which is made.
+///
+/// # Errors
+/// `Output`: PATH is no regular file; another process writes it so; or it can't be written. `Memory`.
+pub fn open_list(host: &HostRuntime, asked: &Asked) -> Result<Option<Output>, CsvJobError> {
+    match &asked.skipped {
+        Some(path) => Ok(Some(Output::open(host, Some(path.as_str()))?)),
+        None => Ok(None),
+    }
+}
+
+/// The list is whole: PATH.part becomes PATH.
+///
+/// # Errors
+/// `Output`.
+pub fn close_list(host: &HostRuntime, list: Option<Output>) -> Result<(), CsvJobError> {
+    match list {
+        Some(list) => list.close(host, true),
+        None => Ok(()),
     }
 }

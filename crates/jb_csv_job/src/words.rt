@@ -1,4 +1,4 @@
-//! The words of the command line.
+//! The arguments of the command line.
 
 ghost use Rattle.std.specs.Prelude.{◌≡◌, ◌≤◌, map, option_map, string_bytes, IfErr, IfOk, IfSome};
 ghost use Rattle.jb_base.specs.Limits.{max_threads};
@@ -23,7 +23,7 @@ use std::{env, io, thread};
 /// How many threads run if the processors can't be counted.
 const SOME_THREADS: u32 = 4;
 
-/// What the words ask for.
+/// What the arguments ask for.
 #[derive(Drop)]
 pub(crate) enum Parsed {
     Job(Asked),
@@ -31,7 +31,7 @@ pub(crate) enum Parsed {
     Text(clap::Error),
 }
 
-/// The word for the threads, if the words are those of an earlier version, THREADS FILE.
+/// The argument for the threads, if the arguments are those of an earlier version, THREADS FILE.
 fn old_form<'a>(words: &[&'a str]) -> Option<&'a str>
     ensures { IfSome result (λ threads. IsOldForm (map (λ w. w.now) words.now) threads.now) }
 {
@@ -51,7 +51,7 @@ fn own_name<'a>(own: Option<OwnOption<'a>>) -> Option<&'a str>
     }
 }
 
-/// What the words ask for, by `clap`.
+/// What the arguments ask for, by `clap`.
 pub(crate) fn parse_words<'a>(
     alloc: Global,
     about: &About<'a>,
@@ -103,7 +103,7 @@ fn processors<T: Threads>(rt: &T) -> u32
     }
 }
 
-/// The words after the program's name.
+/// The arguments after the program's name.
 fn words_of(alloc: Global, args: io::Result<Args>) -> Result<Vec<String>, CsvJobError> {
     match args {
         Ok(args) => Ok(args.skip(1).collect(alloc)?),
@@ -122,7 +122,7 @@ fn texts_of(alloc: Global, words: &[String]) -> Result<Vec<&str>, AllocError>
     Ok(texts)
 }
 
-/// The program's own option, in texts of its own.
+/// The program's own option, in owned texts.
 #[derive(Drop)]
 struct OwnTexts {
     name: String,
@@ -152,7 +152,7 @@ fn own_option(own: &Option<OwnTexts>) -> Option<OwnOption<'_>> {
     }
 }
 
-/// What the words of the process ask for, before the help or the version is printed.
+/// What the arguments of the process ask for, before the help or the version is printed.
 fn asked_by<T: Threads + Host>(
     rt: &T,
     job: &CsvJob,
@@ -179,7 +179,7 @@ fn asked_by<T: Threads + Host>(
     parse_words(alloc, &about, own_option(&own), processors(rt), &words)
 }
 
-/// What the words of the process ask for. Help and version are printed on standard output.
+/// What the arguments of the process ask for. Help and version are printed on standard output.
 ///
 /// # Errors
 /// `Words`: they ask for nothing. `Rows` with `Stream`: standard output failed. `Memory`.

@@ -51,7 +51,7 @@ pub(crate) fn name_of(alloc: Global, job: &CsvJob) -> Result<Name, AllocError>
     Ok(Name::new(String::from_str(alloc, job.name)?))
 }
 
-/// The work of a call with this name, these names of classes and these kept stamps, which are the job's.
+/// The work of a call, with the job's name, the names of its classes, and the stamps of `--keep-stamp`.
 pub(crate) fn work_of<'a, 'b>(
     name: &'a Name,
     classes: &'a [&'a str],

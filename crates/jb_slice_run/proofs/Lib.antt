@@ -24,4 +24,3 @@ mod Working
 mod Refusing
 mod Resumed
 mod Naming
-mod durable

@@ -4,6 +4,7 @@ use Rattle.sqlite_wal.specs.Recovery.{Image}
 use Rattle.jb_csv_job.specs.Done.{HasSkipped, IsByRules, IsDoneSoFar, IsJobDone}
 use Rattle.jb_csv_job.specs.Job.{JobRecord}
 use Rattle.jb_csv_job.specs.SliceFiles.{CanResumeJob, LeavesSlice}
+use Rattle.jb_csv_job.specs.Skipped.{IsListWritten}
 use Rattle.jb_csv_job.specs.declared.asked.Asked.{Asked}
 use Rattle.jb_rows.specs.declared.header.Header.TheVariants as header
 use Rattle.jb_rows.specs.declared.input.Input.TheVariants as input
@@ -43,9 +44,9 @@ payroll asked = record {
   task = asked.task;
 }
 
--- ---- WHAT IS KEPT AND WRITTEN
+-- ---- WHAT IS STORED AND WRITTEN
 
--- IT IS TAKEN UP over the time sheets in these bytes: what the two files of each slice hold is a payroll so far, or nothing
+-- IT CAN BE RESUMED over the time sheets in these bytes: what the two files of each slice hold is a payroll so far, or nothing
 abbrev pub IsPayrollTakenUp : Asked → Functions → (text : Option (List ℕ)) → (log db : ℕ → List ℕ) → Type 0
 IsPayrollTakenUp asked functions text log db = CanResumeJob (payroll asked) functions text log db
 
@@ -65,6 +66,11 @@ IsPaidSoFar asked text old new = IsDoneSoFar (payroll asked) text old new
 abbrev pub AreSkipped : Asked → (text : Option (List ℕ)) → (skips : ℕ) → Type 0
 AreSkipped asked text skips = HasSkipped (payroll asked) text skips
 
--- the exit status is 0 exactly if the payroll's rules let the time sheets pass, and 1 exactly if they don't
+-- the list has the rows of the first slices: the time sheets that were skipped, and of a FAILED slice those by which partitions failed. With status 0
+-- it has exactly one for each time sheet that has a fault, in order: its number, its line, its class and the time sheet.
+abbrev pub AreSkipsListed : Asked → (text old new : Option (List ℕ)) → (status skips : ℕ) → Type 0
+AreSkipsListed asked text old new status skips = IsListWritten (payroll asked) text old new status skips
+
+-- the exit status is 0 only if the payroll's rules let the time sheets pass, and 1 only if they don't
 abbrev pub IsPayrollByRules : Asked → (text : Option (List ℕ)) → (status : ℕ) → Type 0
 IsPayrollByRules asked text status = IsByRules (payroll asked) text status

@@ -1,15 +1,16 @@
 //! A payroll: time sheets in, pay slips out, each once, through any number of kills. docs/YOUR-JOB.md walks through it.
 //!
 //! `payroll [OPTIONS] FOLDER` reads time sheets, lines `NAME,HOURS,RATE`, on standard input, and writes pay slips, lines `NAME,PAY`, on
-//! standard output. Whatever ends it, called again with the same sheets it resumes from the last checkpoint in FOLDER.
+//! standard output. After a crash, call it again with the same sheets: it resumes from the last checkpoint in FOLDER.
 //!
 //! - `sheet`: a time sheet and its pay slip. `clerk`: what is done to a time sheet.
 #![tactic(auto)]
 
 ghost use Rattle.std.specs.Prelude.{◌≡◌, ◌⊎◌, ℕ, List, IfOk, IsTrue};
 ghost use Rattle.sqlite_wal.specs.Recovery.{Image};
+ghost use Rattle.jb_csv_job.specs.Skipped.{IfListed};
 ghost use Rattle.jb_slices.specs.Slice.{Functions};
-ghost use Rattle.payroll.specs.Payroll.{AreSkipped, IsPaid, IsPaidSoFar, IsPayrollByRules, IsPayrollTakenUp, LeavesPayroll};
+ghost use Rattle.payroll.specs.Payroll.{AreSkipped, AreSkipsListed, IsPaid, IsPaidSoFar, IsPayrollByRules, IsPayrollTakenUp, LeavesPayroll};
 
 mod clerk;
 mod sheet;
@@ -18,7 +19,7 @@ use clerk::{CLASSES, Clerk};
 use jb_base::DEFAULT_RETRY_LIMIT;
 use jb_csv_job::{
     Asked, CsvJob, CsvJobError, Drops, Host, JobEnd, Keeper, Output, Request, Stored, asked_of,
-    exit_code, ready_folder, run_csv_job,
+    close_list, exit_code, open_list, ready_folder, run_csv_job,
 };
 use jb_rows::RowsOptions;
 use std::io::{Read, Stdin, Write};
@@ -45,15 +46,24 @@ const JOB: CsvJob<'static> = CsvJob {
     stamp: "1",
 };
 
-/// Runs the payroll that is asked for: reads the time sheets slice by slice, runs each slice or takes it from its file, and writes the pay
-/// slips. Gives the end, with the exit status, and the stream.
+/// Runs the payroll that the command line asks for: reads the time sheets slice by slice, runs each slice or takes it from its file, and writes
+/// the pay slips. With a list it writes there which time sheets were skipped, or made a partition fail. Gives the end, with the exit status, and the
+/// streams.
 fn paid<
     T: Threads + Wait + Clock + Eprint + Host + Copy + Send + Sync + 'static,
     H: Stored,
     K: Keeper,
     R: Read + Drop,
     W: Write + Drop,
->(rt: &T, asked: &Asked, from: R, to: W, keeper: &mut K) -> Result<(JobEnd, W), CsvJobError>
+    S: Write + Drop,
+>(
+    rt: &T,
+    asked: &Asked,
+    from: R,
+    to: W,
+    list: Option<S>,
+    keeper: &mut K,
+) -> Result<(JobEnd, W, Option<S>), CsvJobError>
     // With status 0 the pay slips of all time sheets are written, whatever earlier calls left in the files.
     ensures all { IsTrue (K.are_clean keeper.new) → (functions : Functions) → IsPayrollTakenUp asked.now functions (R.remaining from) H.log H.db
         → IfOk result (λ r. r.0.status ≡ 0 → IsPaid asked.now (R.remaining from) (W.contents to) (W.contents r.1)) }
@@ -71,12 +81,16 @@ fn paid<
     ensures skips { IsTrue (K.are_clean keeper.new) → (functions : Functions) → IsPayrollTakenUp asked.now functions (R.remaining from) H.log H.db
         → IfOk result (λ r. r.0.status ≡ 0 → AreSkipped asked.now (R.remaining from) r.0.skips) }
 
+    // The list, if there is one, has a row for each time sheet that was skipped; and of FAILED slices for each by which a partition failed.
+    ensures listed { IsTrue (K.are_clean keeper.new) → (functions : Functions) → IsPayrollTakenUp asked.now functions (R.remaining from) H.log H.db
+        → IfOk result (λ r. IfListed list r.2 (λ old new. AreSkipsListed asked.now (R.remaining from) (S.contents old) (S.contents new) r.0.status r.0.skips)) }
+
     // Whatever a crash leaves of the files of a slice is a payroll so far.
     ensures left { IsTrue (K.are_clean keeper.new) → (functions : Functions) → IsPayrollTakenUp asked.now functions (R.remaining from) H.log H.db
         → (slice : ℕ) (items : List (List ℕ)) (image : Image) → K.may_leave keeper.new slice items image
         → K.may_leave keeper.old slice items image ⊎ LeavesPayroll asked.now functions (R.remaining from) slice image }
 {
-    run_csv_job::<Clerk, T, H, K, R, W>(rt, &JOB, asked, Clerk, from, to, keeper)
+    run_csv_job::<Clerk, T, H, K, R, W, S>(rt, &JOB, asked, Clerk, from, to, list, keeper)
 }
 
 /// The payroll over the standard streams, or with the file that gets its pay slips.
@@ -87,13 +101,16 @@ fn answer<T: Threads + Wait + Clock + Eprint + Host + Copy + Send + Sync + 'stat
     let host = rt.host();
     ready_folder(host, asked.folder.as_str())?;
     let to = Output::open(host, asked.output.as_deref())?;
-    let (end, to) = paid::<T, Brand, Drops, Stdin, Output>(
+    let list = open_list(host, asked)?;
+    let (end, to, list) = paid::<T, Brand, Drops, Stdin, Output, Output>(
         rt,
         asked,
         host.stdin(),
         to,
+        list,
         &mut Drops,
     )?;
+    close_list(host, list)?;
     to.close(host, end.status == 0)?;
     Ok(end)
 }

@@ -1,8 +1,8 @@
 //! A job over CSV: parcels in, their postage out, each once, through any number of kills. Another job has another record in `parcel` and in
-//! specs/Parcels.antt, and other words and classes of faults in `JOB`.
+//! specs/Parcels.antt, and other names and classes of faults in `JOB`.
 //!
 //! `postage [OPTIONS] FOLDER` reads parcels, lines `NAME,GRAMS`, on standard input, and writes lines `NAME,CENTS` on standard output. A line
-//! that has no postage is skipped. Whatever ends it, called again with the same parcels it resumes from the last checkpoint in FOLDER.
+//! that has no postage is skipped. After a crash, call it again with the same parcels: it resumes from the last checkpoint in FOLDER.
 #![tactic(auto)]
 
 mod parcel;

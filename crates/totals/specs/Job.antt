@@ -48,7 +48,7 @@ totals_job prices stamp asked = record {
   task = asked.task;
 }
 
--- IT IS TAKEN UP over the sales in these bytes: what the two files of each slice hold is this job so far, or nothing
+-- IT CAN BE RESUMED over the sales in these bytes: what the two files of each slice hold is this job so far, or nothing
 abbrev pub AreSalesTakenUp : (prices : List Amount) → (stamp : List ℕ) → Asked → Functions → (text : Option (List ℕ)) → (log db : ℕ → List ℕ) → Type 0
 AreSalesTakenUp prices stamp asked functions text log db = CanResumeJob (totals_job prices stamp asked) functions text log db
 
@@ -56,7 +56,7 @@ AreSalesTakenUp prices stamp asked functions text log db = CanResumeJob (totals_
 abbrev pub LeavesSales : (prices : List Amount) → (stamp : List ℕ) → Asked → Functions → (text : Option (List ℕ)) → (slice : ℕ) → Image → Type 0
 LeavesSales prices stamp asked functions text slice image = LeavesSlice (totals_job prices stamp asked) functions text slice image
 
--- the exit status is 0 exactly if the job's rules let the sales pass, and 1 exactly if they don't
+-- the exit status is 0 only if the job's rules let the sales pass, and 1 only if they don't
 abbrev pub IsTotalsByRules : (prices : List Amount) → (stamp : List ℕ) → Asked → (text : Option (List ℕ)) → (status : ℕ) → Type 0
 IsTotalsByRules prices stamp asked text status = IsByRules (totals_job prices stamp asked) text status
 

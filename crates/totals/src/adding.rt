@@ -19,7 +19,7 @@ use std::alloc::Global;
 #[derive(Drop)]
 pub struct Adding {
     pub totals: Totals,
-    /// Why there are no totals, if so. The job goes on all the same: its results are kept.
+    /// Why there are no totals, if so. The job continues all the same: its results are stored.
     pub refusal: Option<SumsError>,
 }
 

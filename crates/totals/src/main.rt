@@ -2,7 +2,7 @@
 //!
 //! `totals [OPTIONS] --prices PATH FOLDER` reads a list of prices, lines `ITEM,CENTS`, in PATH, and sales, lines
 //! `{"customer":"Ada","item":"pen","count":3}`, on standard input. It writes lines `CUSTOMER,TOTAL` on standard output, once all sales are
-//! done. Whatever ends it, called again with the same sales and prices it resumes from the last checkpoint in FOLDER.
+//! done. After a crash, call it again with the same sales and prices: it resumes from the last checkpoint in FOLDER.
 //!
 //! - `run`: the job's run, and the totals that come of it. `adding`: who takes the results of slices. `price_list`: the list of prices.
 //!   `failure`: why there is no answer.
@@ -17,7 +17,8 @@ mod run;
 
 use failure::TotalsError;
 use jb_csv_job::{
-    Asked, Drops, Host, JobEnd, Output, OwnOption, Request, asked_of, exit_code, ready_folder,
+    Asked, Drops, Host, JobEnd, Output, OwnOption, Request, asked_of, close_list, exit_code,
+    open_list, ready_folder,
 };
 use jb_rows::{Rows, RowsOptions, RowsWriter};
 use price_list::read_list;
@@ -52,21 +53,24 @@ fn answer<T: Threads + Wait + Clock + Eprint + Host + Copy + Send + Sync + 'stat
     let list = read_list(host, asked)?;
     ready_folder(host, asked.folder.as_str())?;
     let to = Output::open(host, asked.output.as_deref())?;
-    let (end, rows) = totals::<T, Brand, Drops, Stdin>(
+    let skips = open_list(host, asked)?;
+    let (end, rows, skips) = totals::<T, Brand, Drops, Stdin, Output>(
         rt,
         host.alloc(),
         asked,
         list.prices,
         list.stamp.as_str(),
         host.stdin(),
+        skips,
         &mut Drops,
     )?;
+    close_list(host, skips)?;
     let to = write_totals(host, to, &rows)?;
     to.close(host, end.status == 0)?;
     Ok(end)
 }
 
-/// The exit status of an answer. Why there is none is printed on standard error, in a line that begins with the name of the refusal.
+/// The exit status of an answer. If there is no answer, a line on standard error says why. It begins with the name of the refusal.
 fn exit_of<T: Eprint + Host>(
     rt: &T,
     folder: &str,

@@ -8,11 +8,14 @@ ghost use Rattle.totals.specs.Job.{AreAdded, AreSalesTakenUp, AreTotalsOf, IsTot
 use crate::adding::Adding;
 use crate::failure::TotalsError;
 use jb_base::DEFAULT_RETRY_LIMIT;
-use jb_csv_job::{Asked, CsvJob, CsvJobError, Host, JobEnd, Keeper, Stored, run_slices};
+use jb_csv_job::{
+    Asked, CsvJob, CsvJobError, CsvSink, Host, JobEnd, Keeper, Stored, begin_list, end_list,
+    run_slices,
+};
 use jb_rows::{Rows, RowsOptions, RowsReader};
 use sales::{Amounts, CLASSES, Pricing};
 use std::alloc::Global;
-use std::io::Read;
+use std::io::{Read, Write};
 use std::sync::Wait;
 use std::thread::Threads;
 use std::time::Clock;
@@ -40,6 +43,7 @@ fn added<
     H: Stored,
     K: Keeper,
     R: Read + Drop,
+    S: Write + Drop,
 >(
     rt: &T,
     alloc: Global,
@@ -47,8 +51,9 @@ fn added<
     prices: Amounts,
     stamp: &str,
     from: R,
+    list: Option<S>,
     keeper: &mut K,
-) -> Result<(JobEnd, Adding), CsvJobError>
+) -> Result<(JobEnd, Adding, Option<S>), CsvJobError>
     ensures all { IsTrue (K.are_clean keeper.new) → (functions : Functions) → AreSalesTakenUp prices stamp.now asked.now functions (R.remaining from) H.log H.db
         → IfOk result (λ r. r.0.status ≡ 0 → AreAdded prices asked.now (R.remaining from) r.1) }
     ensures by_rules { IsTrue (K.are_clean keeper.new) → (functions : Functions) → AreSalesTakenUp prices stamp.now asked.now functions (R.remaining from) H.log H.db
@@ -63,24 +68,29 @@ fn added<
     let mut reader = RowsReader::new(alloc, &job.options, from)?;
     let mut adding = Adding::new(alloc);
     let pricing = Pricing { prices, alloc };
-    let end = run_slices::<Pricing, T, H, K, R, Adding>(
+    let mut listing = begin_list(alloc, &job, asked, &reader, list)?;
+    let end = run_slices::<Pricing, T, H, K, R, Adding, CsvSink<S>>(
         rt,
         &job,
         asked,
         pricing,
         &mut reader,
         &mut adding,
+        &mut listing,
         keeper,
     )?;
-    Ok((end, adding))
+    let listed = end_list(alloc, asked, listing)?;
+    Ok((end, adding, listed))
 }
 
-/// Runs the job, and gives its end, with the exit status, and the totals. With another status than 0, or for a part of the job, there are none.
+/// Runs the job, and gives its end, with the exit status, and the totals. With another status than 0, or for a part of the job, there are
+/// none. With a list it writes there which sales were skipped.
 pub fn totals<
     T: Threads + Wait + Clock + Eprint + Host + Copy + Send + Sync + 'static,
     H: Stored,
     K: Keeper,
     R: Read + Drop,
+    S: Write + Drop,
 >(
     rt: &T,
     alloc: Global,
@@ -88,8 +98,9 @@ pub fn totals<
     prices: Amounts,
     stamp: &str,
     from: R,
+    list: Option<S>,
     keeper: &mut K,
-) -> Result<(JobEnd, Rows), TotalsError>
+) -> Result<(JobEnd, Rows, Option<S>), TotalsError>
     // With status 0 each total is the sum of what is paid for all sales that were read, each once, whatever earlier calls left in the files.
     ensures all { IsTrue (K.are_clean keeper.new) → (functions : Functions) → AreSalesTakenUp prices stamp.now asked.now functions (R.remaining from) H.log H.db
         → IfOk result (λ r. r.0.status ≡ 0 → AreTotalsOf prices asked.now (R.remaining from) r.1) }
@@ -102,9 +113,11 @@ pub fn totals<
         → (slice : ℕ) (items : List (List ℕ)) (image : Image) → K.may_leave keeper.new slice items image
         → K.may_leave keeper.old slice items image ⊎ LeavesSales prices stamp.now asked.now functions (R.remaining from) slice image }
 {
-    let (end, adding) = added::<T, H, K, R>(rt, alloc, asked, prices, stamp, from, keeper)?;
+    let (end, adding, list) = added::<T, H, K, R, S>(
+        rt, alloc, asked, prices, stamp, from, list, keeper,
+    )?;
     if end.status != 0 {
-        return Ok((end, Rows::new(alloc)));
+        return Ok((end, Rows::new(alloc), list));
     }
-    Ok((end, adding.rows()?))
+    Ok((end, adding.rows()?, list))
 }

@@ -1,4 +1,4 @@
-use Rattle.std.proofs.Common.{◌≡◌, ◌∙◌, ◌++◌, ◌+◌, ℕ, suc, List, [], ap, append_assoc, arith, subst, sym, take}
+use Rattle.std.proofs.Common.{◌≡◌, ◌∙◌, ◌++◌, ◌+◌, suc, ap, append_assoc, arith, subst, sym, take}
 use Rattle.std.proofs.lemmas.List.{append-nil, take_all}
 use Rattle.jb_records.specs.PartitionResults.{joined}
 use Rattle.jb_csv_job.proofs.Joining.{joined-more}

@@ -1,4 +1,4 @@
-use Rattle.std.proofs.Common.{◌≡◌, ◌++◌, ℕ, List, take}
+use Rattle.std.proofs.Common.{◌++◌, ℕ, List, take}
 use Rattle.jb_records.specs.PartitionResults.{joined}
 use Rattle.jb_csv_job.proofs.giving.give_all.Given as goal
 

@@ -1,7 +1,6 @@
-use Rattle.std.proofs.Common.{◌≡◌, ◌++◌, List, ℕ, suc, ap, refl, subst, inl, inr, true, false}
+use Rattle.std.proofs.Common.{◌++◌, refl, subst, true}
 use Rattle.jb_records.specs.PartitionResults.{joined}
 use Rattle.jb_csv_job.specs.Job.{job_record}
-use Rattle.jb_csv_job.specs.Loop.{AreDone}
 use Rattle.jb_csv_job.specs.Tasks.{given_by}
 use Rattle.jb_csv_job.proofs.Doing.{ended-by, given-away, kept-back, yes-or-no}
 use Rattle.jb_csv_job.proofs.next.settle.Goals as goal
@@ -33,3 +32,15 @@ returns-in-Ends-clause-goes g c f items number own has ends start taken took don
     let counted = c.in_ok-add.ensures.ends c.in-Ends.is in
     let limit = counted.2 in
     (taken, took, ended-by job items number c.args.tally.now c.add.new.self taken done own c.args.end.now ends work.job.now.some_records has counted.0 counted.1 limit.0 limit.1 limit.2, λ no. counted.0)
+
+pub returns-in_ok-give-in-Gives-clause-fine : goal.returns-in_ok-give-in-Gives-clause-fine
+returns-in_ok-give-in-Gives-clause-fine g c fine = let counted = c.in_ok-add.ensures.gives c.in-Gives.is in (counted.1, counted.0)
+
+pub returns-in-Keeps-clause-fine : goal.returns-in-Keeps-clause-fine
+returns-in-Keeps-clause-fine g c fine = yes-or-no c.add.new.self.is_failed (c.in_ok-add.ensures.keeps c.in-Keeps.is).0 fine
+
+pub returns-in-Ends-clause-fine : goal.returns-in-Ends-clause-fine
+returns-in-Ends-clause-fine g c fine = yes-or-no c.add.new.self.is_failed (c.in_ok-add.ensures.ends c.in-Ends.is).0 fine
+
+pub returns-in-Ends-clause-over : goal.returns-in-Ends-clause-over
+returns-in-Ends-clause-over g c stops = c.in_ok-add.ensures.over c.in-Ends.is

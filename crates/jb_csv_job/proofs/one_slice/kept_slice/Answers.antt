@@ -1,6 +1,4 @@
-use Rattle.std.proofs.Common.{◌≡◌, inl, inr, subst}
-use Rattle.std.specs.Arc.{arc_value}
-use Rattle.sqlite_wal.specs.Recovery.{Image}
+use Rattle.std.proofs.Common.{inl, inr, subst}
 use Rattle.jb_csv_job.proofs.Ending.{same-or-other}
 use Rattle.jb_csv_job.proofs.one_slice.kept_slice.Goals as goal
 

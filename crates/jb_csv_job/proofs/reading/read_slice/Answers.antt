@@ -1,4 +1,4 @@
-use Rattle.std.proofs.Common.{◌≡◌, ◌++◌, take, refl}
+use Rattle.std.proofs.Common.{take}
 use Rattle.jb_slices.specs.Job.{first_of}
 use Rattle.jb_csv_job.specs.Job.{job_record}
 use Rattle.jb_csv_job.proofs.Taking.{slice-read}

@@ -13,4 +13,4 @@ returns-clause-runs g c =
     }
 
 pub returns-clause-empty : goal.returns-clause-empty
-returns-clause-empty g c = record { numbered = c.in_ok-run.ensures.anew.numbered; empty = c.in_ok-run.ensures.anew.empty }
+returns-clause-empty g c = record { numbered = c.in_ok-run.ensures.fresh.numbered; empty = c.in_ok-run.ensures.fresh.empty }

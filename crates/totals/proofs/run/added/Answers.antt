@@ -14,6 +14,13 @@ returns-in_err-end-clause-left g c = λ clean functions taken slice items image 
     (λ (text : Option (List ℕ)). g.K.Keeper.may_leave c.args.keeper.now slice items image ⊎ LeavesSales c.args.prices c.args.stamp.now c.args.asked.now functions text slice image)
     c.in_ok-reader.ensures.given taken (λ bytes given known. c.run_slices.ensures.left clean bytes given functions known slice items image leaves)
 
+pub returns-in_err-listed-clause-left : goal.returns-in_err-listed-clause-left
+returns-in_err-listed-clause-left g c = λ clean functions taken slice items image leaves.
+    of-stream (totals_job c.args.prices c.args.stamp.now c.args.asked.now) functions g.H.Stored.log g.H.Stored.db (g.R.Read.remaining c.args.from)
+    (λ (bytes : List ℕ). HasGivenRows totals_options g.R.Read.remaining c.in_ok-reader.reader bytes [])
+    (λ (text : Option (List ℕ)). g.K.Keeper.may_leave c.args.keeper.now slice items image ⊎ LeavesSales c.args.prices c.args.stamp.now c.args.asked.now functions text slice image)
+    c.in_ok-reader.ensures.given taken (λ bytes given known. c.run_slices.ensures.left clean bytes given functions known slice items image leaves)
+
 pub returns-clause-left : goal.returns-clause-left
 returns-clause-left g c = λ clean functions taken slice items image leaves.
     of-stream (totals_job c.args.prices c.args.stamp.now c.args.asked.now) functions g.H.Stored.log g.H.Stored.db (g.R.Read.remaining c.args.from)

@@ -4,7 +4,7 @@ use Rattle.sqlite_disk.specs.Disk.{MoreFaults}
 use Rattle.sqlite.specs.Held.{state}
 use Rattle.sqlite.specs.State.{HasCleanDisk}
 use Rattle.sqlite_trees.specs.View.{doubt}
-use Rattle.jb_slice_run.specs.contracts.durable.seen.SlicePlacePlaced.TheImpl as slice_state
+use Rattle.jb_slice_run.specs.contracts.durable.seen.ResumableRunPlaced.TheImpl as slice_state
 use Rattle.jb_slice_file.specs.CheckpointBytes.{CheckpointBytes}
 use Rattle.jb_slice_file.specs.ListEnd.{count_of}
 use Rattle.jb_slice_run.specs.durable.Work.{IfFileMatchesMemory, FileMatchesMemory, IsSeenDone, SeenMatchesRows}

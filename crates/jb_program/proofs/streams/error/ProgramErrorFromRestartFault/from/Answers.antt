@@ -1,5 +1,5 @@
 use Rattle.std.proofs.Common.{rules}
-use Rattle.jb_program.proofs.streams.error.FailureFromRestartFault.from.Goals as goal
+use Rattle.jb_program.proofs.streams.error.ProgramErrorFromRestartFault.from.Goals as goal
 
 pub returns-in-Saved : goal.returns-in-Saved
 returns-in-Saved c = search rules

@@ -1,6 +1,6 @@
 use Rattle.std.proofs.Common.{rules}
 use Rattle.jb_program.specs.FailureText.{refusal_line}
-use Rattle.jb_program.proofs.streams.error.FailureDisplay.fmt.Goals as goal
+use Rattle.jb_program.proofs.streams.error.ProgramErrorDisplay.fmt.Goals as goal
 
 pub returns-in-Document : goal.returns-in-Document
 unfolding refusal_line

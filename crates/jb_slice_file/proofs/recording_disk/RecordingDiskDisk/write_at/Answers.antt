@@ -1,4 +1,4 @@
-use Rattle.jb_slice_file.proofs.recording_disk.WatchedDisk.write_at.Goals as goal
+use Rattle.jb_slice_file.proofs.recording_disk.RecordingDiskDisk.write_at.Goals as goal
 
 pub returns-clause-frozen : goal.returns-clause-frozen
 returns-clause-frozen g c frozen =

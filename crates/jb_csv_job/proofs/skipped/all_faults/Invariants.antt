@@ -1,5 +1,5 @@
 use Rattle.std.proofs.Common.{◌≡◌, ◌++◌, map, take}
-use Rattle.jb_csv_job.proofs.skipped.listed_faults.Given as goal
+use Rattle.jb_csv_job.proofs.skipped.all_faults.Given as goal
 
 -- the faults so far are those that have been passed
 abbrev pub invariant-loop-fault : goal.invariant-loop-fault

@@ -1,6 +1,0 @@
-use Rattle.std.proofs.Common.{inr, rules}
-use Rattle.std.proofs.lemmas.List.Sorted.{IsNonDecreasingBy-from_sort_by_key}
-use Rattle.jb_csv_job.proofs.skipped.listed_faults.Goals as goal
-
-pub returns-clause-rising : goal.returns-clause-rising
-returns-clause-rising c = inr (IsNonDecreasingBy-from_sort_by_key (λ fault. fault.number) _ c.in_ok-sort_by_key.ensures.sorted (λ a r q k. search rules))
