@@ -24,9 +24,13 @@ bill_with named = packed (named.0 ∷ decimal named.1 ∷ [])
 unfoldable pub bill_of : Tariff → (bytes : List ℕ) → Option (List ℕ)
 bill_of tariff bytes = option_map bill_with (named_cost tariff (fields_in bytes))
 
--- a record that has no bill can't be read: its fault has class 0
+-- the class of the fault of a record that has no bill
+abbrev pub unbilled_class : ClassId
+unbilled_class = class_of 0
+
+-- a record that has no bill can't be read
 abbrev pub unless_billed : (bill : Option (List ℕ)) → Option ClassId
-unless_billed None = Some (class_of 0)
+unless_billed None = Some unbilled_class
 unless_billed (Some bill) = None
 
 abbrev pub refusal_of : Tariff → (bytes : List ℕ) → Option ClassId

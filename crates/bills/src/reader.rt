@@ -3,7 +3,7 @@
 ghost use Rattle.std.specs.Prelude.{◌≡◌, ◌≤◌, length, IfOk};
 ghost use Rattle.std.specs.Arc.{arc_value};
 ghost use Rattle.bills.specs.Checks.{checked_plans};
-ghost use Rattle.bills.specs.Bills.{refusal_of};
+ghost use Rattle.bills.specs.Bills.{refusal_of, unbilled_class};
 
 use crate::bill::{Tariff, bill_of};
 use jb_artifacts::{Item, ItemReader};
@@ -22,13 +22,20 @@ pub struct UsageReader {
     pub ghost within: { place ≤ length (arc_value usage) },
 }
 
+/// The class of the fault of a record that has no bill.
+pub fn unbilled() -> ClassId
+    ensures { result ≡ unbilled_class }
+{
+    ClassId::new(0)
+}
+
 /// The class with which the read of a record fails, if it does.
 fn refusal_of(alloc: Global, tariff: Tariff, usage: &[u8]) -> Result<Option<ClassId>, AllocError>
     ensures { IfOk result (λ class. class ≡ refusal_of tariff usage.now) }
 {
     match bill_of(alloc, tariff, usage)? {
         Some(_) => Ok(None),
-        None => Ok(Some(ClassId::new(0))),
+        None => Ok(Some(unbilled())),
     }
 }
 

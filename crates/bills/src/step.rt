@@ -5,7 +5,7 @@ ghost use Rattle.jb_base.specs.Limits.{max_parts, max_records};
 
 use crate::bill::Tariff;
 use crate::processor::BillProcessor;
-use crate::reader::UsageReader;
+use crate::reader::{UsageReader, unbilled};
 use crate::writer::BillWriter;
 use jb_artifacts::{ArtifactsOf, CountCollector};
 use jb_base::{DEFAULT_RETRY_LIMIT, MAX_PARTS, Name, PackedList, Rules};
@@ -13,7 +13,7 @@ use jb_chunk::Task;
 use jb_collect::{FaultlessAnalyzer, FaultlessReducer};
 use jb_job::{Spec, Step};
 use jb_mapper::EvenMapper;
-use jb_ready::{Notes, NotingReader};
+use jb_ready::{Classes, Notes, NotingReader};
 use jb_step::{Prepared, StepEnd, StepError, prepare, run_pooled_step};
 use jb_workers::NoGate;
 use std::alloc::{AllocError, Global};
@@ -35,20 +35,22 @@ const TARIFF: Tariff = Tariff {
     per_unit: 30,
 };
 
-/// A record that has no bill, class 0, is skipped. No other call fails, so nothing is retried.
-const RULES: Rules = Rules {
-    skippable: 1,
-    retryable: 0,
-    no_rollback: 0,
-    skip_limit: None,
-    retry_limit: DEFAULT_RETRY_LIMIT,
-};
-
 const PARTITIONS: u32 = 8;
 
 const THREADS: u32 = 4;
 
 const ITEM_COUNT: u64 = 2;
+
+/// A record that has no bill is skipped. No other call fails, so nothing is retried.
+fn rules() -> Rules {
+    Rules {
+        skippable: Classes::of(&[unbilled()]).bits(),
+        retryable: Classes::none().bits(),
+        no_rollback: Classes::none().bits(),
+        skip_limit: None,
+        retry_limit: DEFAULT_RETRY_LIMIT,
+    }
+}
 
 /// What a partition works with as it begins.
 fn new_artifacts(
@@ -90,7 +92,7 @@ pub fn run<R: Threads + Wait + Sync>(
     let step = Step::new(
         id,
         ITEM_COUNT,
-        RULES,
+        rules(),
         Spec::new(PARTITIONS, THREADS, false, None),
     );
     let mut mapper = EvenMapper::new(alloc, PARTITIONS, THREADS, false);

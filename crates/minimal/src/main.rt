@@ -2,11 +2,12 @@
 //! resumes.
 #![tactic(auto)]
 
-ghost use Rattle.minimal.specs.Capitals.{capitals};
+ghost use Rattle.std.specs.Prelude.{◌≡◌};
+ghost use Rattle.minimal.specs.Capitals.{blank_class, capitals};
 
 use jb_base::{ClassId, DEFAULT_RETRY_LIMIT, Name, PackedList, Rules};
 use jb_collect::Status;
-use jb_ready::lines;
+use jb_ready::{Classes, lines};
 use jb_records::{RecordsEnd, RecordsStep, RecordsStepError, StoppedRun, run_records};
 use jb_rows::{Outcome, Row, RowBuilder, RowFunction, Rows};
 use std::alloc::{AllocError, Global};
@@ -15,14 +16,23 @@ use std::process::ExitCode;
 use std::sync::Wait;
 use std::thread::Threads;
 
-/// A line that is refused, class 0, is skipped. No try fails, so nothing is retried.
-const RULES: Rules = Rules {
-    skippable: 1,
-    retryable: 0,
-    no_rollback: 0,
-    skip_limit: None,
-    retry_limit: DEFAULT_RETRY_LIMIT,
-};
+/// The class of the fault of a blank line.
+fn blank() -> ClassId
+    ensures { result ≡ blank_class }
+{
+    ClassId::new(0)
+}
+
+/// A blank line is skipped. No try fails, so nothing is retried.
+fn rules() -> Rules {
+    Rules {
+        skippable: Classes::of(&[blank()]).bits(),
+        retryable: Classes::none().bits(),
+        no_rollback: Classes::none().bits(),
+        skip_limit: None,
+        retry_limit: DEFAULT_RETRY_LIMIT,
+    }
+}
 
 /// A line in capitals. A blank one is refused.
 #[derive(Drop)]
@@ -40,7 +50,7 @@ impl RowFunction for Capitals {
                 built.push(text.as_slice())?;
                 Ok(Outcome::Given)
             }
-            _ => Ok(Outcome::Refused(ClassId::new(0))),
+            _ => Ok(Outcome::Refused(blank())),
         }
     }
 }
@@ -69,7 +79,7 @@ fn run<R: Threads + Wait + Sync>(
         partitions: 8,
         threads: 4,
         item_count: 2,
-        rules: RULES,
+        rules: rules(),
     };
     let stopped = run_records(rt, alloc, &step, Capitals { alloc }, lines, None, Some(1))?;
     if stopped.status != Status::Stopped {
