@@ -11,8 +11,8 @@ use crate::ranges::is_in_range;
 use jb_job::{JobError, read_tree};
 use json::{Error, Reader, Scratch, Value as Borrowed, to_vec};
 use serde_json::Value;
+use simdutf8::compat::from_utf8;
 use std::alloc::Global;
-use std::str::from_utf8;
 
 /// How deep arrays and objects of a document may nest.
 const MAX_DEPTH: usize = 127;

@@ -94,17 +94,24 @@ pub fn list<'t, 'a>(
 }
 
 /// As `list`, of a list whose members may be taken apart.
-#[tactic(auto, unfolding(jb_job::specs::Reading::list_at))]
+#[tactic(auto, using(crate::proofs::Trees::tree_steps), unfolding(jb_job::specs::Reading::list_at))]
 pub fn list_by_value<'a>(
     low: usize,
     high: usize,
     field: Field,
     tree: Borrowed<'a>,
 ) -> Result<Vec<Borrowed<'a>>, JobError>
-    ensures { GivesExactly (λ v. items_seen v.items) result (list_at low high field (seen tree.entry)) }
+    ensures exact { GivesExactly (λ v. items_seen v.items) result (list_at low high field (seen tree.entry)) }
+    ensures short { IfOk result (λ v. length v.items ≤ high) }
 {
-    let _items = list(low, high, field, &tree)?;
-    array(field, tree)
+    let items = array(field, tree)?;
+    if high < items.len() {
+        Err(JobError::TooMany(field))
+    } else if items.len() < low {
+        Err(JobError::OutOfRange(field))
+    } else {
+        Ok(items)
+    }
 }
 
 /// A text of any length: another kind is WrongShape.

@@ -9,11 +9,11 @@ use Rattle.jb_program.specs.declared.words.request.Request.TheVariants.{Perform}
 use Rattle.jb_program.specs.Answer.{IsRefusedBy}
 use Rattle.jb_program.specs.CommandLine.{Asks}
 use Rattle.jb_program.specs.Failures.{HasFailed, IsCutShort}
-use Rattle.jb_program.specs.Refusals.{IsDocumentFailure, IsRunFailure}
+use Rattle.jb_program.specs.Refusals.{Answering, Explains, RunningJob}
 use Rattle.jb_program.specs.Statuses.{failure_code}
 
 -- plan and check fail in no way in which run doesn't
-pub as_run_failure : (e : ProgramError) → IsDocumentFailure e → IsRunFailure e
+pub as_run_failure : (e : ProgramError) → Explains Answering e → Explains RunningJob e
 as_run_failure (failure.Document f) fails = fails
 as_run_failure (failure.Plan f) fails = absurd fails
 as_run_failure (failure.Saved f) fails = absurd fails
@@ -24,7 +24,7 @@ as_run_failure failure.Stream fails = fails
 as_run_failure (failure.Usage f) fails = absurd fails
 
 pub has_failed : (words : List Text) (line : Line) (input old new : Option (List ℕ)) (e : ProgramError) → Asks words (Perform line)
-    → (failure_code e ≡ 3 → IfSome input (IsRefusedBy line.word line.rounds e)) → IsRunFailure e → (e ≢ failure.Stream → Keeps old new) → IsCutShort (Perform line) input old new
+    → (failure_code e ≡ 3 → IfSome input (IsRefusedBy line.word line.rounds e)) → Explains RunningJob e → (e ≢ failure.Stream → Keeps old new) → IsCutShort (Perform line) input old new
     → HasFailed (Some words) input old new e
 has_failed words line input old new (failure.Document f) asks refused fails silent cut = (line, asks, refused refl, silent (λ same. cc))
 has_failed words line input old new (failure.Plan f) asks refused fails silent cut = (line, asks, refused refl, silent (λ same. cc))

@@ -8,7 +8,7 @@ use Rattle.jb_program.specs.declared.streams.error.ProgramError.{ProgramError}
 use Rattle.jb_program.specs.declared.streams.error.ProgramError.TheVariants as failure
 use Rattle.jb_program.specs.declared.words.request.Word.TheVariants as word
 use Rattle.jb_program.specs.Statuses.{failure_of, failure_code, restart_failure}
-use Rattle.jb_program.specs.Refusals.{IsBreakOff, IsDocumentFailure, IsRunFailure}
+use Rattle.jb_program.specs.Refusals.{Answering, Explains, RunningJob, RunningRounds}
 use Rattle.jb_program.specs.JobRun.{IsRefusedAtStep, IsRestartRefused, IsStepRefused, done_before}
 use Rattle.jb_job.specs.Records.{StepRecord}
 use Rattle.jb_documents.specs.declared.run.document.Document.{Document}
@@ -29,7 +29,7 @@ use Rattle.jb_program.proofs.Known.{some-along}
 use Rattle.jb_program.proofs.Steps.{never-saved}
 use Rattle.jb_program.proofs.Failed.{as_run_failure}
 
-pub failure-of_fault : (f : JobError) → IsDocumentFailure (failure_of f)
+pub failure-of_fault : (f : JobError) → Explains Answering (failure_of f)
 failure-of_fault fault.NotJson = tt
 failure-of_fault (fault.WrongShape f) = tt
 failure-of_fault (fault.OutOfRange f) = tt
@@ -68,7 +68,7 @@ at-step ((step, supply) ∷ steps) round_limit resume e (inl refused) = not-begu
 at-step ((step, supply) ∷ steps) round_limit resume e (inr later) = at-step steps round_limit None e later.3
 
 -- what broke a run off, or why a step is refused, is a failure of `run`
-fails-for : (R : ProgramError → Type 0) → ((e : ProgramError) → R e → IsRefusal e) → (e : ProgramError) → IsBreakOff e ⊎ R e → IsRunFailure e
+fails-for : (R : ProgramError → Type 0) → ((e : ProgramError) → R e → IsRefusal e) → (e : ProgramError) → Explains RunningRounds e ⊎ R e → Explains RunningJob e
 fails-for R refusal (failure.Plan f) why = tt
 fails-for R refusal (failure.Saved place) why = tt
 fails-for R refusal (failure.Document f) (inl broken) = absurd broken
@@ -81,13 +81,13 @@ fails-for R refusal (failure.Usage f) (inl broken) = absurd broken
 fails-for R refusal (failure.Usage f) (inr refused) = absurd (refusal (failure.Usage f) refused)
 
 -- it is no fault of the document
-no-document : (R : ProgramError → Type 0) → ((e : ProgramError) → R e → IsRefusal e) → (e : ProgramError) → IsBreakOff e ⊎ R e → (f : JobError) → e ≡ failure.Document f → ⊥
-no-document R refusal e (inl broken) f is = subst IsBreakOff is broken
+no-document : (R : ProgramError → Type 0) → ((e : ProgramError) → R e → IsRefusal e) → (e : ProgramError) → Explains RunningRounds e ⊎ R e → (f : JobError) → e ≡ failure.Document f → ⊥
+no-document R refusal e (inl broken) f is = subst (Explains RunningRounds) is broken
 no-document R refusal e (inr refused) f is = subst IsRefusal is (refusal e refused)
 
 -- where nothing broke it off, a step is refused
-refused-by : (R : ProgramError → Type 0) (e other : ProgramError) → (IsBreakOff other → ⊥) → IsBreakOff e ⊎ R e → e ≡ other → R other
-refused-by R e other whole (inl broken) is = absurd (whole (subst IsBreakOff is broken))
+refused-by : (R : ProgramError → Type 0) (e other : ProgramError) → (Explains RunningRounds other → ⊥) → Explains RunningRounds e ⊎ R e → e ≡ other → R other
+refused-by R e other whole (inl broken) is = absurd (whole (subst (Explains RunningRounds) is broken))
 refused-by R e other whole (inr refused) is = subst R is refused
 
 -- what is said where a run gives no report, of the bytes that were read
@@ -95,10 +95,10 @@ pub record RunFails (round_limit : Option ℕ) (input : Option (List ℕ)) (e : 
   pub refused : (f : JobError) → e ≡ failure.Document f → IfSome input (IsRefusedDocument f)
   pub unplanned : (f : PlanError) → e ≡ failure.Plan f → IfSome input (IsRefusedPlan round_limit f)
   pub unsaved : (place : SavedPlace) → e ≢ failure.Saved place
-  pub failures : IsRunFailure e
+  pub failures : Explains RunningJob e
 
 pub run-fails : (round_limit : Option ℕ) (input : Option (List ℕ)) (items : List ℕ) (document : Document) (e : ProgramError) → IfSome input (λ bytes. items ≡ bytes) → IsDocument items document
-    → IsBreakOff e ⊎ IsRefusedAtStep (zip document.job.steps document.step_data) round_limit None e → RunFails round_limit input e
+    → Explains RunningRounds e ⊎ IsRefusedAtStep (zip document.job.steps document.step_data) round_limit None e → RunFails round_limit input e
 run-fails round_limit input items document e are read why =
     let R : ProgramError → Type 0 = λ one. IsRefusedAtStep (zip document.job.steps document.step_data) round_limit None one in
     let refusal : (one : ProgramError) → R one → IsRefusal one = λ one. at-step (zip document.job.steps document.step_data) round_limit None one in
@@ -115,14 +115,14 @@ pub record RestartFails (round_limit : Option ℕ) (input : Option (List ℕ)) (
   pub refused : (f : JobError) → e ≡ failure.Document f → IfSome input (IsRefusedRestart (restart_fault.Document f))
   pub unplanned : (f : PlanError) → e ≡ failure.Plan f → IfSome input (IsRefusedRestartStep round_limit (failure.Plan f))
   pub unsaved : (place : SavedPlace) → e ≡ failure.Saved place → IfSome input (IsRefusedSaved round_limit place)
-  pub failures : IsRunFailure e
+  pub failures : Explains RunningJob e
 
 pub restart-fails : (round_limit : Option ℕ) (input : Option (List ℕ)) (items : List ℕ) (document : RestartDocument) (e : ProgramError) → IfSome input (λ bytes. items ≡ bytes) → IsRestartText items document
-    → IsBreakOff e ⊎ IsRestartRefused document round_limit e → RestartFails round_limit input e
+    → Explains RunningRounds e ⊎ IsRestartRefused document round_limit e → RestartFails round_limit input e
 restart-fails round_limit input items document e are read why =
     let R : ProgramError → Type 0 = λ one. IsRestartRefused document round_limit one in
     let refusal : (one : ProgramError) → R one → IsRefusal one = λ one. at-step (drop (done_before document) (zip document.job.steps document.step_data)) round_limit (Some document.resume) one in
-    let reported : (one : ProgramError) → (IsBreakOff one → ⊥) → e ≡ one → (bytes : List ℕ) → items ≡ bytes → IsRefusedRestartStep round_limit one bytes =
+    let reported : (one : ProgramError) → (Explains RunningRounds one → ⊥) → e ≡ one → (bytes : List ℕ) → items ≡ bytes → IsRefusedRestartStep round_limit one bytes =
     λ one whole is bytes here. record { document = document; read = subst (λ bs. IsRestartText bs document) here read; refused = refused-by R e one whole why is } in
     record {
       refused = λ f is. absurd (no-document R refusal e why f is);
@@ -141,10 +141,10 @@ same-fault fault.UnknownClass g is = cc
 same-fault fault.Memory g is = cc
 
 no-plan : (f : JobError) (g : PlanError) → failure_of f ≡ failure.Plan g → ⊥
-no-plan f g is = subst IsDocumentFailure is (failure-of_fault f)
+no-plan f g is = subst (Explains Answering) is (failure-of_fault f)
 
 no-saved : (f : JobError) (place : SavedPlace) → failure_of f ≡ failure.Saved place → ⊥
-no-saved f place is = subst IsDocumentFailure is (failure-of_fault f)
+no-saved f place is = subst (Explains Answering) is (failure-of_fault f)
 
 -- a document of `restart` that isn't read
 pub unread : (round_limit : Option ℕ) (input : Option (List ℕ)) (items : List ℕ) (f : RestartFault) → IfSome input (λ bytes. items ≡ bytes) → IsRefusedRestart f items → RestartFails round_limit input (restart_failure f)
@@ -175,7 +175,7 @@ beside P None a p = tt
 -- by each word
 pub refused_by_run : (round_limit : Option ℕ) (input : Option (List ℕ)) (e : ProgramError) → ((f : JobError) → e ≡ failure.Document f → IfSome input (IsRefusedDocument f))
     → ((f : PlanError) → e ≡ failure.Plan f → IfSome input (IsRefusedPlan round_limit f)) → ((place : SavedPlace) → e ≡ failure.Saved place → ⊥)
-    → IsRunFailure e → failure_code e ≡ 3 → IfSome input (IsRefusedBy word.Run round_limit e)
+    → Explains RunningJob e → failure_code e ≡ 3 → IfSome input (IsRefusedBy word.Run round_limit e)
 refused_by_run round_limit input (failure.Document f) document plan unsaved fails code = beside (IsRefusedDocument f) input fails (document f refl)
 refused_by_run round_limit input (failure.Plan f) document plan unsaved fails code = plan f refl
 refused_by_run round_limit input (failure.Saved place) document plan unsaved fails code = absurd (unsaved place refl)
@@ -189,7 +189,7 @@ pub refused_by_restart : (round_limit : Option ℕ) (input : Option (List ℕ)) 
     → ((f : JobError) → e ≡ failure.Document f → IfSome input (IsRefusedRestart (restart_fault.Document f)))
     → ((f : PlanError) → e ≡ failure.Plan f → IfSome input (IsRefusedRestartStep round_limit (failure.Plan f)))
     → ((place : SavedPlace) → e ≡ failure.Saved place → IfSome input (IsRefusedSaved round_limit place))
-    → IsRunFailure e → failure_code e ≡ 3 → IfSome input (IsRefusedBy word.Restart round_limit e)
+    → Explains RunningJob e → failure_code e ≡ 3 → IfSome input (IsRefusedBy word.Restart round_limit e)
 refused_by_restart round_limit input (failure.Document f) document plan saved fails code = beside (IsRefusedRestart (restart_fault.Document f)) input fails (document f refl)
 refused_by_restart round_limit input (failure.Plan f) document plan saved fails code = plan f refl
 refused_by_restart round_limit input (failure.Saved place) document plan saved fails code = saved place refl
@@ -200,7 +200,7 @@ refused_by_restart round_limit input (failure.Repository p) document plan saved 
 refused_by_restart round_limit input (failure.Usage f) document plan saved fails code = absurd fails
 
 pub refused_by_plan : (round_limit : Option ℕ) (input : Option (List ℕ)) (e : ProgramError) → ((f : JobError) → e ≡ failure.Document f → IfSome input (IsRefusedLoad f))
-    → IsDocumentFailure e → failure_code e ≡ 3 → IfSome input (IsRefusedBy word.Plan round_limit e)
+    → Explains Answering e → failure_code e ≡ 3 → IfSome input (IsRefusedBy word.Plan round_limit e)
 refused_by_plan round_limit input (failure.Document f) document fails code = beside (IsRefusedLoad f) input fails (document f refl)
 refused_by_plan round_limit input (failure.Plan f) document fails code = absurd fails
 refused_by_plan round_limit input (failure.Saved place) document fails code = absurd fails
@@ -211,7 +211,7 @@ refused_by_plan round_limit input (failure.Repository p) document fails code = a
 refused_by_plan round_limit input (failure.Usage f) document fails code = absurd fails
 
 pub refused_by_check : (round_limit : Option ℕ) (input : Option (List ℕ)) (e : ProgramError) → ((f : JobError) → e ≡ failure.Document f → IfSome input (IsRefusedClaim f))
-    → IsDocumentFailure e → failure_code e ≡ 3 → IfSome input (IsRefusedBy word.Check round_limit e)
+    → Explains Answering e → failure_code e ≡ 3 → IfSome input (IsRefusedBy word.Check round_limit e)
 refused_by_check round_limit input (failure.Document f) document fails code = beside (IsRefusedClaim f) input fails (document f refl)
 refused_by_check round_limit input (failure.Plan f) document fails code = absurd fails
 refused_by_check round_limit input (failure.Saved place) document fails code = absurd fails

@@ -29,7 +29,7 @@ use Rattle.jb_program.specs.declared.streams.error.ProgramError.{ProgramError}
 use Rattle.jb_program.specs.declared.streams.error.ProgramError.TheVariants as failure
 use Rattle.jb_program.specs.inside.LowerLaws.{LowerCrateLaws}
 use Rattle.jb_program.specs.JobRun.{IsStepRefused, IsStepRun, kept_of, plan_for, plan_of_step, settings_of, setup_of, opening_artifacts_of}
-use Rattle.jb_program.specs.Refusals.{IsBreakOff}
+use Rattle.jb_program.specs.Refusals.{Explains, RunningRounds}
 use Rattle.jb_program.specs.StepRun.{AreHeld, IsNotBegun, gone_on_from, outputs_of, partitions_left, rows_saved, setup_with, all_opening_artifacts}
 use Rattle.jb_program.proofs.Callbacks.{well-calls}
 use Rattle.jb_program.proofs.Opening.{AreOpening, IsPreparedWith, opening, within-rows}
@@ -143,7 +143,7 @@ handed-on (Ok status) e P is holds = tt
 handed-on (Err one) e P is holds = subst P (sym is) holds
 
 pub refused : (step : StepRecord) (supply : StepData) (resume : Option Resume) (saved : Option SavedRows) (count : ℕ) (e : ProgramError) → count ≡ length supply.records → saved ≡ rows_saved resume
-    → (e ≡ failure.Memory) ⊎ IsNotBegun step count (plan_for step.spec count) saved e → IsBreakOff e ⊎ IsStepRefused step supply resume e
-refused step supply resume saved count e counted same (inl memory) = inl (subst IsBreakOff (sym memory) tt)
+    → (e ≡ failure.Memory) ⊎ IsNotBegun step count (plan_for step.spec count) saved e → Explains RunningRounds e ⊎ IsStepRefused step supply resume e
+refused step supply resume saved count e counted same (inl memory) = inl (subst (Explains RunningRounds) (sym memory) tt)
 refused step supply resume saved count e counted same (inr first) =
     inr (subst (λ n. IsNotBegun step n (plan_for step.spec n) (rows_saved resume) e) counted (subst (λ (rows : Option SavedRows). IsNotBegun step count (plan_for step.spec count) rows e) same first))

@@ -18,7 +18,7 @@ use Rattle.jb_texts.specs.ReportTokens.{step_tokens}
 use Rattle.jb_program.specs.declared.streams.error.ProgramError.{ProgramError}
 use Rattle.jb_program.specs.declared.streams.error.ProgramError.TheVariants as failure
 use Rattle.jb_program.specs.JobRun.{AreStepRuns, IsRefusedAtStep, IsStepRefused, IsStepRun, earlier, status_in}
-use Rattle.jb_program.specs.Refusals.{IsBreakOff}
+use Rattle.jb_program.specs.Refusals.{Explains, RunningRounds}
 
 same-at : (ranges : List Range) (j : ℕ) (d e : Range) → j < length ranges → get_or ranges j d ≡ get_or ranges j e
 same-at [] j d e h = absurd (omega (arith, h))
@@ -81,14 +81,14 @@ other-last round_limit resume steps rest step supplies others supply report ende
 
 -- a step is refused, or one behind it
 pub first-refused : (round_limit : Option ℕ) (resume : Option Resume) (steps rest : List StepRecord) (step : StepRecord) (supplies others : List StepData) (supply : StepData) (e : ProgramError)
-    → steps ≡ step ∷ rest → supplies ≡ supply ∷ others → IsBreakOff e ⊎ IsStepRefused step supply resume e → IsBreakOff e ⊎ IsRefusedAtStep (zip steps supplies) round_limit resume e
+    → steps ≡ step ∷ rest → supplies ≡ supply ∷ others → Explains RunningRounds e ⊎ IsStepRefused step supply resume e → Explains RunningRounds e ⊎ IsRefusedAtStep (zip steps supplies) round_limit resume e
 first-refused round_limit resume steps rest step supplies others supply e steps-are supplies-are (inl broken) = inl broken
 first-refused round_limit resume steps rest step supplies others supply e steps-are supplies-are (inr refused) =
     inr (subst (λ ss. IsRefusedAtStep (zip ss supplies) round_limit resume e) (sym steps-are) (subst (λ ds. IsRefusedAtStep (zip (step ∷ rest) ds) round_limit resume e) (sym supplies-are) (inl refused)))
 
 pub later-refused : (round_limit : Option ℕ) (resume : Option Resume) (steps rest : List StepRecord) (step : StepRecord) (supplies others : List StepData) (supply : StepData) (report : StepReport) (e : ProgramError)
     → steps ≡ step ∷ rest → supplies ≡ supply ∷ others → IsStepRun step supply round_limit resume report → report.status ≡ status.Completed
-    → IsBreakOff e ⊎ IsRefusedAtStep (zip rest others) round_limit None e → IsBreakOff e ⊎ IsRefusedAtStep (zip steps supplies) round_limit resume e
+    → Explains RunningRounds e ⊎ IsRefusedAtStep (zip rest others) round_limit None e → Explains RunningRounds e ⊎ IsRefusedAtStep (zip steps supplies) round_limit resume e
 later-refused round_limit resume steps rest step supplies others supply report e steps-are supplies-are run completed (inl broken) = inl broken
 later-refused round_limit resume steps rest step supplies others supply report e steps-are supplies-are run completed (inr refused) =
     inr (subst (λ ss. IsRefusedAtStep (zip ss supplies) round_limit resume e) (sym steps-are) (subst (λ ds. IsRefusedAtStep (zip (step ∷ rest) ds) round_limit resume e) (sym supplies-are) (inr (report, run, completed, refused))))

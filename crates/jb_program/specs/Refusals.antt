@@ -12,13 +12,6 @@ abbrev pub IsDocumentFault : JobError → Type 0
 IsDocumentFault fault.Memory = ⊥
 IsDocumentFault _ = Unit
 
--- a run that breaks off: there is no memory, a worker can't be started, or the repository isn't the step's own
-abbrev pub IsBreakOff : ProgramError → Type 0
-IsBreakOff failure.Memory = Unit
-IsBreakOff failure.Workers = Unit
-IsBreakOff (failure.Repository _) = Unit
-IsBreakOff _ = ⊥
-
 -- the failure that a run reports of its step's error; the program's own artifacts and callbacks have no other
 abbrev pub IsFailureOf : StepError → ProgramError → Type 0
 IsFailureOf (error.Repository partition) e = e ≡ failure.Repository partition
@@ -26,18 +19,32 @@ IsFailureOf error.Workers e = e ≡ failure.Workers
 IsFailureOf error.Memory e = e ≡ failure.Memory
 IsFailureOf _ e = ⊥
 
--- plan and check: a fault of the document, out of memory, or a failing stream
-abbrev pub IsDocumentFailure : ProgramError → Type 0
-IsDocumentFailure (failure.Document fault) = IsDocumentFault fault
-IsDocumentFailure failure.Memory = Unit
-IsDocumentFailure failure.Stream = Unit
-IsDocumentFailure _ = ⊥
+-- ---- WHICH ERRORS THERE MAY BE, by what the program does
 
--- run and restart: also a fault of a step's partition plan or of the saved rows, a worker that can't be started, or a
--- repository that isn't the step's own
-abbrev pub IsRunFailure : ProgramError → Type 0
-IsRunFailure (failure.Plan _) = Unit
-IsRunFailure (failure.Saved _) = Unit
-IsRunFailure failure.Workers = Unit
-IsRunFailure (failure.Repository _) = Unit
-IsRunFailure e = IsDocumentFailure e
+pub data Phase : Type 0 where
+  -- `plan` and `check`: it reads a document and writes the answer
+  Answering : Phase
+  -- `run` and `restart`: it does so, and runs the steps of a job
+  RunningJob : Phase
+  -- it runs the rounds of a step
+  RunningRounds : Phase
+
+abbrev pub Explains : Phase → ProgramError → Type 0
+-- it is out of memory
+Explains phase failure.Memory = Unit
+-- the document has a fault
+Explains Answering (failure.Document fault) = IsDocumentFault fault
+Explains RunningJob (failure.Document fault) = IsDocumentFault fault
+-- a stream fails
+Explains Answering failure.Stream = Unit
+Explains RunningJob failure.Stream = Unit
+-- a step's partition plan or its saved rows have a fault
+Explains RunningJob (failure.Plan _) = Unit
+Explains RunningJob (failure.Saved _) = Unit
+-- a worker can't be started
+Explains RunningJob failure.Workers = Unit
+Explains RunningRounds failure.Workers = Unit
+-- the repository isn't the step's own
+Explains RunningJob (failure.Repository _) = Unit
+Explains RunningRounds (failure.Repository _) = Unit
+Explains phase e = ⊥

@@ -16,20 +16,20 @@ use super::faults::StepFaults;
 use super::records::Records;
 use super::step_data::StepData;
 use crate::fields::take_field;
-use crate::kinds::{list, object, text, text_bytes};
+use crate::kinds::{list_by_value, object, text};
 use jb_base::{MAX_AFFIX, MAX_RECORD, MAX_RECORDS, PackedList, Text};
 use jb_job::{Field, Job, JobError};
 use json::Value as Borrowed;
 use std::alloc::Global;
 
-/// The texts of the list, packed into exact room.
-fn packed(alloc: Global, items: &Vec<Borrowed<'_>>) -> Result<PackedList, JobError>
-    ensures exact { Gives (λ texts. texts) result (each_at (λ _. text_at 0 max_record field.Records) (items_seen items.now.items)) }
-    ensures long { IfOk result (λ texts. length texts ≡ length items.now.items) }
+/// The texts of the list, packed, with exact room for their ends. The list is walked once.
+fn packed(alloc: Global, items: Vec<Borrowed<'_>>) -> Result<PackedList, JobError>
+    ensures exact { Gives (λ texts. texts) result (each_at (λ _. text_at 0 max_record field.Records) (items_seen items.entry.items)) }
+    ensures long { IfOk result (λ texts. length texts ≡ length items.entry.items) }
 {
-    let mut texts = PackedList::with_room(alloc, items.len(), text_bytes(items))?;
+    let mut texts = PackedList::with_room(alloc, items.len(), 0)?;
     for item in items {
-        texts.push(text(0, MAX_RECORD, Field::Records, item)?.as_bytes())?;
+        texts.push(text(0, MAX_RECORD, Field::Records, &item)?.as_bytes())?;
     }
     Ok(texts)
 }
@@ -38,7 +38,7 @@ fn packed(alloc: Global, items: &Vec<Borrowed<'_>>) -> Result<PackedList, JobErr
 fn records(alloc: Global, tree: Borrowed<'_>) -> Result<Records, JobError>
     ensures { Gives (λ r. r) result (records_at field.Records (seen tree.entry)) }
 {
-    let items = list(0, MAX_RECORDS as usize, Field::Records, &tree)?;
+    let items = list_by_value(0, MAX_RECORDS as usize, Field::Records, tree)?;
     Ok(Records::new(packed(alloc, items)?))
 }
 

@@ -4,7 +4,7 @@ ghost use Rattle.std.specs.Prelude.{◌≡◌, ◌-◌, ◌⊎◌, ◌++◌, dro
 ghost use Rattle.std.specs.List.{zip};
 ghost use Rattle.jb_texts.specs.Report.{Report, StepReport, report_text};
 ghost use Rattle.jb_texts.specs.ReportTokens.{step_tokens};
-ghost use Rattle.jb_program.specs.Refusals.{IsBreakOff};
+ghost use Rattle.jb_program.specs.Refusals.{Explains, RunningRounds};
 ghost use Rattle.jb_program.specs.JobRun.{AreStepRuns, IsJobRun, IsRefusedAtStep, IsRestartRefused, IsRestartRun, earlier, status_in};
 ghost use Rattle.jb_program.specs.StepRun.{AreHeld};
 
@@ -32,7 +32,7 @@ fn run_steps<T: Threads + Wait + Sync>(
     requires held { IfSome resume AreHeld }
     ensures ran { IfOk result (λ status. (reports : List StepReport) × AreStepRuns (zip steps.now supplies.items) round_limit resume reports
         × (status ≡ status_in (slice_get reports (length reports - 1))) × (text.new ≡ text.old ++ flat_map step_tokens reports)) }
-    ensures why { IfErr result (λ e. IsBreakOff e ⊎ IsRefusedAtStep (zip steps.now supplies.items) round_limit resume e) }
+    ensures why { IfErr result (λ e. Explains RunningRounds e ⊎ IsRefusedAtStep (zip steps.now supplies.items) round_limit resume e) }
 {
     let Some((step, steps)) = steps.split_first() else {
         return Ok(Status::Completed);
@@ -61,7 +61,7 @@ fn run_later_steps<T: Threads + Wait + Sync>(
     ensures ran { IfOk result (λ status. (reports : List StepReport)
         × AreStepRuns (drop (earlier resume.saved.step steps.now) (zip steps.now supplies.items)) round_limit (Some resume) reports
         × (status ≡ status_in (slice_get reports (length reports - 1))) × (text.new ≡ text.old ++ flat_map step_tokens reports)) }
-    ensures why { IfErr result (λ e. IsBreakOff e
+    ensures why { IfErr result (λ e. Explains RunningRounds e
         ⊎ IsRefusedAtStep (drop (earlier resume.saved.step steps.now) (zip steps.now supplies.items)) round_limit (Some resume) e) }
 {
     let Some((step, rest)) = steps.split_first() else {
@@ -86,7 +86,7 @@ pub fn run_job<T: Threads + Wait + Sync>(
     round_limit: Option<u64>,
 ) -> Result<(Status, ReportText), ProgramError>
     ensures ran { IfOk result (λ ran. (report : Report) × IsJobRun document round_limit report × (ran.0 ≡ report.status) × (ran.1 ≡ report_text report)) }
-    ensures why { IfErr result (λ e. IsBreakOff e ⊎ IsRefusedAtStep (zip document.job.steps document.step_data) round_limit None e) }
+    ensures why { IfErr result (λ e. Explains RunningRounds e ⊎ IsRefusedAtStep (zip document.job.steps document.step_data) round_limit None e) }
 {
     let Document {
         job,
@@ -116,7 +116,7 @@ pub fn restart_job<T: Threads + Wait + Sync>(
 ) -> Result<(Status, ReportText), ProgramError>
     requires held { AreHeld document.resume }
     ensures ran { IfOk result (λ ran. (report : Report) × IsRestartRun document round_limit report × (ran.0 ≡ report.status) × (ran.1 ≡ report_text report)) }
-    ensures why { IfErr result (λ e. IsBreakOff e ⊎ IsRestartRefused document round_limit e) }
+    ensures why { IfErr result (λ e. Explains RunningRounds e ⊎ IsRestartRefused document round_limit e) }
 {
     let RestartDocument {
         job,

@@ -10,7 +10,7 @@ ghost use Rattle.jb_step.specs.preparing.Prepare.{DoFit};
 ghost use Rattle.jb_step.specs.preparing.Setup.{first_tasks};
 ghost use Rattle.jb_step.specs.Statuses.{status_of};
 ghost use Rattle.jb_step.specs.declared.error.StepError.TheVariants.{WrongArtifacts};
-ghost use Rattle.jb_program.specs.Refusals.{IsBreakOff, IsFailureOf};
+ghost use Rattle.jb_program.specs.Refusals.{Explains, IsFailureOf, RunningRounds};
 
 use crate::run::artifacts::OwnArtifacts;
 use crate::streams::ProgramError;
@@ -29,7 +29,7 @@ fn run_failure(error: StepError) -> ProgramError
     requires causes { IsRunError error }
     requires fit { error ≡ WrongArtifacts → ⊥ }
     ensures why { IsFailureOf error result }
-    ensures broken { IsBreakOff result }
+    ensures broken { Explains RunningRounds result }
 {
     match error {
         StepError::Repository(partition) => ProgramError::Repository(partition),
@@ -83,7 +83,7 @@ pub fn run_over_desk<T: Threads + Wait + Sync, L: Ledger + Send + Sync + 'static
         ended.0.snapshot.rows.items (given_back ⟦<OwnArtifacts as Meaning>⟧.meaning ended.0.artifacts.items)) }
     ensures status { IfOk result (λ ended. ended.0.status ≡ status_of ended.0.snapshot.rows.items false) }
     ensures reducer { IfOk result (λ ended. ended.2 ≡ reducer ++ calls_after (status_of ended.0.snapshot.rows.items false) false) }
-    ensures why { IfErr result IsBreakOff }
+    ensures why { IfErr result (Explains RunningRounds) }
 {
     let desk = prepared.desk::<L>(alloc, blank)?;
     let (end, analyzer, reducer) = run_pooled_step::<Task<OwnArtifacts>, L, NoGate, T>(

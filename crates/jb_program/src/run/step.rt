@@ -4,7 +4,7 @@ ghost use Rattle.std.specs.Prelude.{◌≡◌, ◌⊎◌, ◌++◌, IfErr, IfOk,
 ghost use Rattle.jb_texts.specs.Report.{StepReport};
 ghost use Rattle.jb_texts.specs.ReportTokens.{step_tokens};
 ghost use Rattle.jb_program.specs.JobRun.{IsStepRefused, IsStepRun};
-ghost use Rattle.jb_program.specs.Refusals.{IsBreakOff};
+ghost use Rattle.jb_program.specs.Refusals.{Explains, RunningRounds};
 ghost use Rattle.jb_program.specs.StepRun.{AreHeld};
 
 use crate::run::artifacts::all_artifacts;
@@ -39,7 +39,7 @@ pub fn run_job_step<T: Threads + Wait + Sync>(
 ) -> Result<Status, ProgramError>
     requires held { IfSome resume AreHeld }
     ensures ran { IfOk result (λ status. (report : StepReport) × IsStepRun step.now supply round_limit resume report × (status ≡ report.status) × (text.new ≡ text.old ++ step_tokens report)) }
-    ensures why { IfErr result (λ e. IsBreakOff e ⊎ IsStepRefused step.now supply resume e) }
+    ensures why { IfErr result (λ e. Explains RunningRounds e ⊎ IsStepRefused step.now supply resume e) }
 {
     let StepData {
         records,

@@ -5,7 +5,7 @@ ghost use Rattle.std.specs.Io.KnownBytes.{Keeps};
 ghost use Rattle.jb_job.specs.declared.error.JobError.{JobError};
 ghost use Rattle.jb_documents.specs.CheckDocument.{IsRefusedClaim, claim_of};
 ghost use Rattle.jb_program.specs.CheckWord.{IsCheckAnswer, IsCheckFront, IsClaimAnswer, IsClaimFront, IsJudgementOf};
-ghost use Rattle.jb_program.specs.Refusals.{IsDocumentFailure};
+ghost use Rattle.jb_program.specs.Refusals.{Answering, Explains};
 
 use crate::streams::{ProgramError, read_all};
 use jb_cert::{PlanFault, check_certificate, check_plan};
@@ -61,7 +61,7 @@ pub fn run_check<R: Read, W: Write>(
 ) -> Result<u8, ProgramError>
     ensures checked { IfOk result (IsCheckAnswer (R.remaining reader.old) (W.contents writer.old) (W.contents writer.new)) }
     ensures refused { IfErr result (λ e. (fault : JobError) → e ≡ ProgramError.Document fault → IfSome (R.remaining reader.old) (IsRefusedClaim fault)) }
-    ensures failures { IfErr result IsDocumentFailure }
+    ensures failures { IfErr result (Explains Answering) }
     ensures silent { IfErr result (λ e. e ≢ ProgramError.Stream → Keeps (W.contents writer.old) (W.contents writer.new)) }
     ensures cut { OnErr result (Keeps (W.contents writer.old) (W.contents writer.new) ⊎ IsCheckFront (R.remaining reader.old) (W.contents writer.old) (W.contents writer.new)) }
 {

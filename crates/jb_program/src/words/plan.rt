@@ -7,7 +7,7 @@ ghost use Rattle.jb_documents.specs.PlanDocument.{IsRefusedLoad};
 ghost use Rattle.jb_texts.specs.Front.{AppendsFront};
 ghost use Rattle.jb_texts.specs.PlanText.{text_of_load};
 ghost use Rattle.jb_program.specs.PlanWord.{IsPlanFront, IsPlanned, IsPlannedFor};
-ghost use Rattle.jb_program.specs.Refusals.{IsDocumentFailure};
+ghost use Rattle.jb_program.specs.Refusals.{Answering, Explains};
 
 use crate::streams::{ProgramError, read_all};
 use jb_documents::{ChunkLoad, read_load};
@@ -49,7 +49,7 @@ pub fn run_plan<R: Read, W: Write>(
     ensures status { IfOk result (λ status. status ≡ 0) }
     ensures planned { OnOk result (IsPlanned (R.remaining reader.old) (W.contents writer.old) (W.contents writer.new)) }
     ensures refused { IfErr result (λ e. (fault : JobError) → e ≡ ProgramError.Document fault → IfSome (R.remaining reader.old) (IsRefusedLoad fault)) }
-    ensures failures { IfErr result IsDocumentFailure }
+    ensures failures { IfErr result (Explains Answering) }
     ensures silent { IfErr result (λ e. e ≢ ProgramError.Stream → Keeps (W.contents writer.old) (W.contents writer.new)) }
     ensures cut { OnErr result (Keeps (W.contents writer.old) (W.contents writer.new) ⊎ IsPlanFront (R.remaining reader.old) (W.contents writer.old) (W.contents writer.new)) }
 {

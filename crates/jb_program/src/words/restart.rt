@@ -7,7 +7,7 @@ ghost use Rattle.jb_plan.specs.declared.fault.PlanError.{PlanError};
 ghost use Rattle.jb_saved.specs.declared.place.SavedPlace.{SavedPlace};
 ghost use Rattle.jb_documents.specs.RestartDocument.{IsRefusedRestart};
 ghost use Rattle.jb_documents.specs.declared.restart.fault.RestartFault.TheVariants as restart_fault;
-ghost use Rattle.jb_program.specs.Refusals.{IsRunFailure};
+ghost use Rattle.jb_program.specs.Refusals.{Explains, RunningJob};
 ghost use Rattle.jb_program.specs.RestartWord.{IsRefusedRestartStep, IsRefusedSaved, IsRestarted, IsRestartFront};
 
 use crate::run::restart_job;
@@ -37,7 +37,7 @@ pub fn restart<T: Threads + Wait + Sync, R: Read, W: Write>(
     ensures refused { IfErr result (λ e. (fault : JobError) → e ≡ ProgramError.Document fault → IfSome (R.remaining reader.old) (IsRefusedRestart (restart_fault.Document fault))) }
     ensures unplanned { IfErr result (λ e. (fault : PlanError) → e ≡ ProgramError.Plan fault → IfSome (R.remaining reader.old) (IsRefusedRestartStep round_limit (ProgramError.Plan fault))) }
     ensures unsaved { IfErr result (λ e. (place : SavedPlace) → e ≡ ProgramError.Saved place → IfSome (R.remaining reader.old) (IsRefusedSaved round_limit place)) }
-    ensures failures { IfErr result IsRunFailure }
+    ensures failures { IfErr result (Explains RunningJob) }
     ensures silent { IfErr result (λ e. e ≢ ProgramError.Stream → Keeps (W.contents writer.old) (W.contents writer.new)) }
     ensures cut { OnErr result (Keeps (W.contents writer.old) (W.contents writer.new) ⊎ IsRestartFront round_limit (R.remaining reader.old) (W.contents writer.old) (W.contents writer.new)) }
 {

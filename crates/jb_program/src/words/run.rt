@@ -8,7 +8,7 @@ ghost use Rattle.jb_saved.specs.declared.place.SavedPlace.{SavedPlace};
 ghost use Rattle.jb_documents.specs.RunDocument.{IsRefusedDocument};
 ghost use Rattle.jb_texts.specs.Front.{AppendsFront};
 ghost use Rattle.jb_texts.specs.Statuses.{status_code};
-ghost use Rattle.jb_program.specs.Refusals.{IsRunFailure};
+ghost use Rattle.jb_program.specs.Refusals.{Explains, RunningJob};
 ghost use Rattle.jb_program.specs.RunWord.{IsRefusedPlan, IsRun, IsRunFront};
 
 use crate::run::run_job;
@@ -51,7 +51,7 @@ pub fn run<T: Threads + Wait + Sync, R: Read, W: Write>(
     ensures refused { IfErr result (λ e. (fault : JobError) → e ≡ ProgramError.Document fault → IfSome (R.remaining reader.old) (IsRefusedDocument fault)) }
     ensures unplanned { IfErr result (λ e. (fault : PlanError) → e ≡ ProgramError.Plan fault → IfSome (R.remaining reader.old) (IsRefusedPlan round_limit fault)) }
     ensures unsaved { IfErr result (λ e. (place : SavedPlace) → e ≢ ProgramError.Saved place) }
-    ensures failures { IfErr result IsRunFailure }
+    ensures failures { IfErr result (Explains RunningJob) }
     ensures silent { IfErr result (λ e. e ≢ ProgramError.Stream → Keeps (W.contents writer.old) (W.contents writer.new)) }
     ensures cut { OnErr result (Keeps (W.contents writer.old) (W.contents writer.new) ⊎ IsRunFront round_limit (R.remaining reader.old) (W.contents writer.old) (W.contents writer.new)) }
 {

@@ -32,6 +32,8 @@ pub struct ReportText {
     // Up to the list of the steps' reports, since it has the status, which is known last; with room for all that a block may hold.
     block: Vec<u8>,
     parts: Vec<Part>,
+    // The bytes of the longest result.
+    longest: usize,
     // What comes after the last results.
     last: Vec<u8>,
 }
@@ -96,32 +98,34 @@ fn put_text<W: Write>(mut block: Vec<u8>, text: &[u8], writer: &mut W) -> io::Re
     Ok(block)
 }
 
-/// Appends a part to the block, as `put_text` does a text.
+/// Appends a part to the block, as `put_text` does a text. Its longest result has about so many bytes.
 fn put_part<W: Write>(
     alloc: Global,
     block: Vec<u8>,
     part: &Part,
+    longest: usize,
     writer: &mut W,
 ) -> io::Result<Vec<u8>>
     ensures passed { IfOk result (λ rest. PassesOn (W.contents writer.old) (W.contents writer.new) block.items (part_text part.now) rest.items) }
     ensures front { OnErr result (AppendsFront (W.contents writer.old) (W.contents writer.new) (block.items ++ part_text part.now)) }
 {
     let block = put_text(block, &part.text, writer)?;
-    write_results(alloc, block, &part.results, writer)
+    write_results(alloc, block, &part.results, longest, writer)
 }
 
-/// Appends the parts to the block, one after another.
+/// Appends the parts to the block, one after another. Their longest result has about so many bytes.
 fn put_parts<W: Write>(
     alloc: Global,
     mut block: Vec<u8>,
     parts: &[Part],
+    longest: usize,
     writer: &mut W,
 ) -> io::Result<Vec<u8>>
     ensures passed { IfOk result (λ rest. PassesOn (W.contents writer.old) (W.contents writer.new) block.items (flat_map part_text parts.now) rest.items) }
     ensures front { OnErr result (AppendsFront (W.contents writer.old) (W.contents writer.new) (block.items ++ flat_map part_text parts.now)) }
 {
     for part in parts {
-        block = put_part(alloc, block, part, writer)?;
+        block = put_part(alloc, block, part, longest, writer)?;
     }
     Ok(block)
 }
@@ -137,12 +141,13 @@ impl ReportText {
         ensures { IfOk result (λ text. (reports : List StepReport) → steps ≡ steps_tokens reports → text ≡ report_text (record { job = job.now; status = status; steps = reports })) }
     {
         let (parts, last) = steps_of(steps)?;
-        let room = room_for(longest_result(&parts));
-        let block = head_of(alloc, room, job, status)?;
+        let longest = longest_result(&parts);
+        let block = head_of(alloc, room_for(longest), job, status)?;
         Ok(ReportText {
             alloc,
             block,
             parts,
+            longest,
             last,
         })
     }
@@ -157,9 +162,10 @@ impl ReportText {
             alloc,
             block,
             parts,
+            longest,
             last,
         } = self;
-        let block = put_parts(alloc, block, &parts, writer)?;
+        let block = put_parts(alloc, block, &parts, longest, writer)?;
         let block = put_text(block, &last, writer)?;
         write_whole(&block, writer)
     }

@@ -10,7 +10,6 @@ ghost use Rattle.jb_texts.specs.Front.{AppendsFront};
 ghost use Rattle.jb_texts.specs.inside.Parts.{PassesOn, results_tokens};
 
 use crate::block::pass_on;
-use crate::report::parts::longest_in;
 use crate::report::text::{write_ascii, write_text};
 use jb_base::PackedList;
 use json::Writer;
@@ -115,18 +114,20 @@ fn end_from(from: usize, count: usize, at_once: usize) -> usize
     }
 }
 
-/// Appends the results to the block, one after another, and passes it on whenever it is full. What is left of it is given back.
+/// Appends the results to the block, one after another, and passes it on whenever it is full. What is left of it is given back. The
+/// longest result has about so many bytes: by that the block is looked at.
 pub fn write_results<W: Write>(
     alloc: Global,
     mut block: Vec<u8>,
     results: &PackedList,
+    longest: usize,
     writer: &mut W,
 ) -> io::Result<Vec<u8>>
     ensures passed { IfOk result (λ rest. PassesOn (W.contents writer.old) (W.contents writer.new) block.items (print (results_tokens results.now)) rest.items) }
     ensures front { OnErr result (AppendsFront (W.contents writer.old) (W.contents writer.new) (block.items ++ print (results_tokens results.now))) }
 {
     let is_ascii = results.is_ascii();
-    let at_once = count_at_once(longest_in(results));
+    let at_once = count_at_once(longest);
     let mut from = 0;
     while from < results.len() {
         let to = end_from(from, results.len(), at_once);

@@ -13,7 +13,7 @@ pub struct Part {
 }
 
 /// The bytes of the longest result.
-pub fn longest_in(results: &PackedList) -> usize
+fn longest_in(results: &PackedList) -> usize
     ensures { result ≡ longest results.now }
 {
     let mut longest = 0;

@@ -4,7 +4,7 @@ use Rattle.std.proofs.lemmas.Result.{IfErr-weaker, IfOk-weaker}
 use Rattle.jb_documents.specs.declared.run.step_data.StepData.{StepData}
 use Rattle.jb_job.specs.Records.{StepRecord}
 use Rattle.jb_program.specs.JobRun.{IsRefusedAtStep}
-use Rattle.jb_program.specs.Refusals.{IsBreakOff}
+use Rattle.jb_program.specs.Refusals.{Explains, RunningRounds}
 use Rattle.jb_program.proofs.Steps.{LeftOf, from-later, head-removed, no-data, no-steps}
 use Rattle.jb_program.proofs.run.job.+run_later_steps.Goals as goal
 
@@ -40,6 +40,6 @@ returns-clause-why g t c =
     head-removed c.args.supplies.items c.remove.result some c.remove.ensures.value ∙ ap (λ rest. c.remove.result ∷ rest) (sym c.remove.ensures.items) in
     let other : bytes_eq c.in-Some.step.now.id resume.saved.step ≡ false = search rules in
     IfErr-weaker c.run_later_steps.result _ _
-    (λ e left. from-later (λ (pairs : List (StepRecord × StepData)). IsBreakOff e ⊎ IsRefusedAtStep pairs c.args.round_limit (Some resume) e) resume.saved.step
+    (λ e left. from-later (λ (pairs : List (StepRecord × StepData)). Explains RunningRounds e ⊎ IsRefusedAtStep pairs c.args.round_limit (Some resume) e) resume.saved.step
     c.args.steps.now c.in-Some.rest.now c.in-Some.step.now c.args.supplies.items c.remove.new.self.items c.remove.result steps supplies other left)
     c.run_later_steps.ensures.why

@@ -5,7 +5,7 @@ use Rattle.jb_job.specs.Records.{StepRecord}
 use Rattle.jb_documents.specs.declared.run.step_data.StepData.{StepData}
 use Rattle.jb_program.specs.declared.streams.error.ProgramError.{ProgramError}
 use Rattle.jb_program.specs.JobRun.{AreStepRuns, IsRefusedAtStep, earlier}
-use Rattle.jb_program.specs.Refusals.{IsBreakOff}
+use Rattle.jb_program.specs.Refusals.{Explains, RunningRounds}
 use Rattle.jb_program.proofs.run.job.restart_job.Goals as goal
 
 pub returns-clause-ran : goal.returns-clause-ran
@@ -33,7 +33,7 @@ returns-in_err-status-clause-why g c =
     let e = c.in_err-status.field-0.0 in
     let steps : c.as_slice.result.now ≡ document.job.steps = search rules in
     let supplies : c.into_vec.result.items ≡ document.step_data = search rules in
-    let P : List StepRecord → List StepData → ProgramError → Type 0 = λ ss ds failure. IsBreakOff failure ⊎ IsRefusedAtStep (drop (earlier id ss) (zip ss ds)) c.args.round_limit (Some document.resume) failure in
+    let P : List StepRecord → List StepData → ProgramError → Type 0 = λ ss ds failure. Explains RunningRounds failure ⊎ IsRefusedAtStep (drop (earlier id ss) (zip ss ds)) c.args.round_limit (Some document.resume) failure in
     let own : P c.as_slice.result.now document.step_data e = subst (λ (ds : List StepData). P c.as_slice.result.now ds e) supplies c.in_err-status.ensures.why in
     let why : P document.job.steps document.step_data e = subst (λ (ss : List StepRecord). P ss document.step_data e) steps own in
     let found = err_from_is_err_and c.from_residual-in_err-status.result c.from_residual-in_err-status.ensures.1 in

@@ -3,14 +3,14 @@ use Rattle.jb_collect.specs.ReducerCalls.{calls_before}
 use Rattle.jb_saved.specs.SavedRows.{SavedRows}
 use Rattle.jb_step.specs.preparing.Setup.{overrides}
 use Rattle.jb_program.specs.JobRun.{IsStepRefused}
-use Rattle.jb_program.specs.Refusals.{IsBreakOff}
+use Rattle.jb_program.specs.Refusals.{Explains, RunningRounds}
 use Rattle.jb_program.proofs.StepRuns.{handed-on, prepared-with, refused, step-run, within-prepared, artifacts-serve}
 use Rattle.jb_program.proofs.run.step.run_job_step.Goals as goal
 
 pub returns-in_err-prepared-clause-why : goal.returns-in_err-prepared-clause-why
 returns-in_err-prepared-clause-why g c =
     let counted : c.len-count.result ≡ length c.args.supply.records = search rules in
-    handed-on c.from_residual.result c.in_err-prepared.field-0.0 (λ e. IsBreakOff e ⊎ IsStepRefused c.args.step.now c.args.supply c.args.resume e) c.from_residual.ensures.1
+    handed-on c.from_residual.result c.in_err-prepared.field-0.0 (λ e. Explains RunningRounds e ⊎ IsStepRefused c.args.step.now c.args.supply c.args.resume e) c.from_residual.ensures.1
     (refused c.args.step.now c.args.supply c.args.resume c.saved_state-saved.result.0 c.len-count.result c.in_err-prepared.field-0.0 counted c.saved_state-saved.ensures.saved c.in_err-prepared.ensures.why)
 
 pub all_artifacts-requires : goal.all_artifacts-requires

@@ -5,7 +5,7 @@ use Rattle.jb_saved.specs.declared.place.SavedPlace.{SavedPlace}
 use Rattle.jb_program.specs.declared.streams.error.ProgramError.TheVariants as failure
 use Rattle.jb_documents.specs.RestartDocument.{IsRefusedRestart}
 use Rattle.jb_documents.specs.declared.restart.fault.RestartFault.TheVariants as restart_fault
-use Rattle.jb_program.specs.Refusals.{IsRunFailure}
+use Rattle.jb_program.specs.Refusals.{Explains, RunningJob}
 use Rattle.jb_program.specs.RestartWord.{IsRefusedRestartStep, IsRefusedSaved}
 use Rattle.jb_program.specs.Statuses.{restart_failure}
 use Rattle.jb_program.proofs.Held.{read-held}
@@ -36,7 +36,7 @@ returns-in_err-document-clause-unsaved g c =
 pub returns-in_err-document-clause-failures : goal.returns-in_err-document-clause-failures
 returns-in_err-document-clause-failures g c =
     let input = g.R.Read.remaining c.args.reader.now in
-    handed-on c.from_residual-in_err-document.result (restart_failure c.in_err-document.field-0.0) (λ e. IsRunFailure e) c.from_residual-in_err-document.ensures.1
+    handed-on c.from_residual-in_err-document.result (restart_failure c.in_err-document.field-0.0) (Explains RunningJob) c.from_residual-in_err-document.ensures.1
     (unread c.args.round_limit input c.in_ok-bytes.bytes.items c.in_err-document.field-0.0 c.in_ok-bytes.ensures.bytes c.in_err-document.ensures.refused).failures
 
 pub returns-in_err-status-clause-refused : goal.returns-in_err-status-clause-refused
@@ -60,5 +60,5 @@ returns-in_err-status-clause-unsaved g c =
 pub returns-in_err-status-clause-failures : goal.returns-in_err-status-clause-failures
 returns-in_err-status-clause-failures g c =
     let input = g.R.Read.remaining c.args.reader.now in
-    handed-on c.from_residual-in_err-status.result c.in_err-status.field-0.0 (λ e. IsRunFailure e) c.from_residual-in_err-status.ensures.1
+    handed-on c.from_residual-in_err-status.result c.in_err-status.field-0.0 (Explains RunningJob) c.from_residual-in_err-status.ensures.1
     (restart-fails c.args.round_limit input c.in_ok-bytes.bytes.items c.in_ok-document.document c.in_err-status.field-0.0 c.in_ok-bytes.ensures.bytes c.in_ok-document.ensures.document c.in_err-status.ensures.why).failures
