@@ -84,7 +84,8 @@ pub kept-first : (f : Function) (rules : RulesRecord) (records : List (List ℕ)
     → ns ≡ needs setup.rows → s.artifacts ≡ zip ns ws → rules ≡ setup.rules → AreFirstArtifacts f rules records partition_results (unfinished setup.rows) ws
     → s.step ≡ step → s.records ≡ length records → s.setup ≡ setup → s.partition_results ≡ newer_partition_results s.artifacts partition_results → IsAsPrepared f records step setup partition_results s
 kept-first f rules records step setup partition_results ns ws s named zipped ruled are step-is number setup-is partition_results-are =
-    let first = subst (λ (r : RulesRecord). AreArtifacts f r records partition_results (unfinished setup.rows) ws) ruled (artifacts-at-first f rules records partition_results (unfinished setup.rows) ws are) in
+    let own-are = subst (λ (r : RulesRecord). AreFirstArtifacts f r records partition_results (unfinished setup.rows) ws) ruled are in
+    let first = artifacts-at-first f setup.rules records partition_results (unfinished setup.rows) ws own-are in
     let long : length ws ≡ length (needs setup.rows) = as-many _ (unfinished setup.rows) ws first ∙ sym (names-length (unfinished setup.rows)) in
     let own : s.artifacts ≡ zip (needs setup.rows) ws = zipped ∙ ap (λ (ms : List ℕ). zip ms ws) named in
     record {
@@ -95,7 +96,7 @@ kept-first f rules records step setup partition_results ns ws s named zipped rul
           ∙ ap (λ (l : List (ℕ × ArtifactsMeaning)). newer_partition_results l partition_results) own
           ∙ own-partition_results f setup.rules records partition_results 0 partition_results (unfinished setup.rows) ws (λ i x get. let e : i ≡ 0 + i = omega arith in subst (λ m. slice_get partition_results m ≡ Some x) e get) first;
       partitions = ap numbers_in own ∙ zip-names (needs setup.rows) ws long;
-      artifacts = subst (AreArtifacts f setup.rules records partition_results (unfinished setup.rows)) (sym (ap artifacts_in own ∙ zip-artifacts (needs setup.rows) ws long)) first;
+      artifacts = subst (AreFirstArtifacts f setup.rules records partition_results (unfinished setup.rows)) (sym (ap artifacts_in own ∙ zip-artifacts (needs setup.rows) ws long)) own-are;
     }
 
 -- ---- WHERE IT STANDS
@@ -108,7 +109,7 @@ kept-stands f records step setup partition_results s kept is so follow = record 
   so_far = subst (IsSoFar f records s.setup.rows) (sym kept.partition_results_are) (subst (λ (x : Setup). IsSoFar f records x.rows partition_results) (sym kept.setup_is) so);
   partitions = kept.partitions ∙ sym (ap (λ (x : Setup). needs x.rows) kept.setup_is);
   artifacts = subst (λ (xs : List (List (List ℕ))). AreArtifacts f s.setup.rules records xs (unfinished s.setup.rows) (artifacts_in s.artifacts)) (sym kept.partition_results_are)
-      (subst (λ (x : Setup). AreArtifacts f x.rules records partition_results (unfinished x.rows) (artifacts_in s.artifacts)) (sym kept.setup_is) kept.artifacts);
+      (subst (λ (x : Setup). AreArtifacts f x.rules records partition_results (unfinished x.rows) (artifacts_in s.artifacts)) (sym kept.setup_is) (artifacts-at-first f setup.rules records partition_results (unfinished setup.rows) (artifacts_in s.artifacts) kept.artifacts));
   follows = λ steady. subst (λ (x : Setup). FollowRules f x.rules records x.rows) (sym kept.setup_is) (follow steady);
 }
 

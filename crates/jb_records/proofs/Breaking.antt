@@ -1,5 +1,5 @@
--- Why a interval of a run that stays in memory breaks off.
-use Rattle.std.proofs.Common.{◌≡◌, ℕ, ◌≤◌, Bool, true, false, not, List, [], ◌∷◌, ◌++◌, length, Option, Some, None, refl, ap, ap₂, arith}
+-- Why an interval of a run that stays in memory breaks off.
+use Rattle.std.proofs.Common.{◌≡◌, ℕ, ◌≤◌, Bool, true, false, not, List, [], ◌∷◌, ◌++◌, length, Some, refl, ap, ap₂, arith}
 use Rattle.std.proofs.lemmas.Bool.Decides.{nat_tests}
 use Rattle.std.proofs.lemmas.Slice.Eq.{bytes_eq-Decides}
 use Rattle.std.specs.Prelude.{bytes_eq, nat_lt, slice_get}
@@ -14,7 +14,6 @@ use Rattle.jb_step.specs.declared.error.StepError.{StepError}
 use Rattle.jb_step.specs.declared.error.StepError.TheVariants as error
 use Rattle.jb_saved.specs.declared.place.SavedPlace.{SavedPlace}
 use Rattle.jb_saved.specs.declared.place.SavedPlace.TheVariants as place
-use Rattle.jb_step.specs.restarts.Saving.{RefusesSaving}
 use Rattle.jb_saved.specs.GoingOn.{fault_if, ends_past, step_faults}
 use Rattle.jb_saved.specs.SavedRows.{SavedRows}
 use Rattle.jb_step.specs.Answers.{IsRunError}
@@ -22,9 +21,7 @@ use Rattle.jb_records.specs.declared.error.RecordsStepError.{RecordsStepError}
 use Rattle.jb_records.specs.declared.error.RecordsStepError.TheVariants.{Memory, Records, Results, SkippedTry, Step}
 use Rattle.jb_records.specs.declared.step.RecordsStep.{RecordsStep}
 use Rattle.jb_records.specs.Made.{even_partitions}
-use Rattle.jb_records.specs.Intervals.{IsBrokenOff}
-use Rattle.jb_records.specs.inside.Calls.{IsUnpreparedFor}
-use Rattle.jb_records.specs.inside.InMemory.{IsRunBroken}
+use Rattle.jb_records.specs.Causes.{Explains, Run, RunInterval, Unseen, prepare_evenly}
 
 -- ---- A PLAN THAT CAN BE RUN HAS NO FIRST ERROR
 
@@ -49,19 +46,7 @@ runnable-first records plan fault can is =
     (none-of (many ++ ranges) overlaps fault (none-of many ranges fault (none-first (nat_lt max_partitions (length plan.ranges)) TooMany fault enough) (ranges-runnable records plan fault plan.ranges refl can)) (overlap-runnable records plan fault plan.ranges refl can))
     (none-first (nat_lt max_threads_asked plan.threads) Threads fault all) is
 
--- ---- A STRETCH BREAKS OFF
-
--- its rows are saved where none runs
-pub unsaved : (e : StepError) (running : Option ℕ) → running ≡ None → RefusesSaving e running → IsBrokenOff (Step e)
-unsaved (error.Plan fault) running none is = is
-unsaved (error.Mapper class) running none is = is
-unsaved (error.Reducer class) running none is = is
-unsaved error.WrongArtifacts running none is = is
-unsaved (error.Repository p) running none is = absurd is
-unsaved error.Workers running none is = absurd is
-unsaved (error.Saved p) None none is = is
-unsaved (error.Saved p) (Some i) none is = let never : ⊥ = cc in absurd never
-unsaved error.Memory running none is = tt
+-- ---- AN INTERVAL BREAKS OFF
 
 -- they are the step's own
 no-fault-if : (holds : Bool) (fault : SavedPlace) → holds ≡ false → fault_if holds fault ≡ []
@@ -78,40 +63,18 @@ no-place fault (first ∷ faults) none is = cc
 
 -- and the step is prepared from them
 pub unprepared-again : (step : RecordsStep) (count : ℕ) (held : SavedRows) (e : RecordsStepError) → count ≤ max_records → IsRunnable count (even_partitions step count) → held.step ≡ step.id → ends_past count held.rows ≡ false
-    → IsUnpreparedFor step count (Some held) e → IsBrokenOff e
+    → Explains (prepare_evenly step count (Some held) Unseen) e → Explains RunInterval e
 unprepared-again step count held Records few can own past is = omega (arith, few, is)
-unprepared-again step count held Results few can own past is = is
-unprepared-again step count held SkippedTry few can own past is = is
 unprepared-again step count held (Step (error.Plan fault)) few can own past is = runnable-first count (even_partitions step count) fault can is
-unprepared-again step count held (Step (error.Mapper class)) few can own past is = is
-unprepared-again step count held (Step (error.Reducer class)) few can own past is = is
-unprepared-again step count held (Step error.WrongArtifacts) few can own past is = is
-unprepared-again step count held (Step (error.Repository p)) few can own past is = absurd is
-unprepared-again step count held (Step error.Workers) few can own past is = absurd is
+unprepared-again step count held (Step (error.Repository p)) few can own past is = tt
+unprepared-again step count held (Step error.Workers) few can own past is = tt
 unprepared-again step count held (Step (error.Saved p)) few can own past is = no-place p (step_faults step.id count held) (no-faults step.id count held own past) is
-unprepared-again step count held (Step error.Memory) few can own past is = tt
-unprepared-again step count held Memory few can own past is = tt
+unprepared-again step count held e few can own past is = is
 
-pub run-broken : (Fit : Type 0) (e : StepError) → IsRunError e → (e ≡ error.WrongArtifacts → Fit → ⊥) → IsRunBroken Fit (Step e)
-run-broken Fit (error.Plan fault) is wrong = is
-run-broken Fit (error.Mapper class) is wrong = is
-run-broken Fit (error.Reducer class) is wrong = is
+pub run-broken : (Fit : Type 0) (e : StepError) → IsRunError e → (e ≡ error.WrongArtifacts → Fit → ⊥) → Explains (Run Fit) (Step e)
 run-broken Fit error.WrongArtifacts is wrong = wrong refl
-run-broken Fit (error.Repository p) is wrong = tt
-run-broken Fit error.Workers is wrong = tt
-run-broken Fit (error.Saved p) is wrong = is
-run-broken Fit error.Memory is wrong = tt
+run-broken Fit e is wrong = is
 
-pub broke-off : (Fit : Type 0) (e : RecordsStepError) → IsRunBroken Fit e → Fit → IsBrokenOff e
-broke-off Fit Records is fit = is
-broke-off Fit Results is fit = is
-broke-off Fit SkippedTry is fit = is
-broke-off Fit (Step (error.Plan fault)) is fit = is
-broke-off Fit (Step (error.Mapper class)) is fit = is
-broke-off Fit (Step (error.Reducer class)) is fit = is
+pub broke-off : (Fit : Type 0) (e : RecordsStepError) → Explains (Run Fit) e → Fit → Explains RunInterval e
 broke-off Fit (Step error.WrongArtifacts) is fit = absurd (is fit)
-broke-off Fit (Step (error.Repository p)) is fit = tt
-broke-off Fit (Step error.Workers) is fit = tt
-broke-off Fit (Step (error.Saved p)) is fit = is
-broke-off Fit (Step error.Memory) is fit = tt
-broke-off Fit Memory is fit = tt
+broke-off Fit e is fit = is

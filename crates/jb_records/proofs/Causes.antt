@@ -10,9 +10,8 @@ use Rattle.jb_base.specs.Rules.{RulesRecord}
 use Rattle.jb_collect.specs.declared.calls.ReducerCall.{ReducerCall}
 use Rattle.jb_collect.specs.AnsweredCalls.{AnsweredCall, faulted, since, well}
 use Rattle.jb_collect.specs.declared.calls.ReducerCall.TheVariants.{Begin}
-use Rattle.jb_base.specs.Causes.{IsCause}
-use Rattle.jb_job.specs.Reading.{tree_of}
 use Rattle.jb_job.specs.Records.{StepRecord}
+use Rattle.jb_plan.specs.Faults.{IsFirst, plan_errors}
 use Rattle.jb_plan.specs.declared.plan.PartitionPlan.{PartitionPlan}
 use Rattle.jb_rules.specs.declared.row.Row.{Row}
 use Rattle.jb_rules.specs.Rows.{dropped_row, fresh_row}
@@ -20,21 +19,17 @@ use Rattle.jb_rules.specs.States.{is_failed}
 use Rattle.jb_step.specs.declared.error.StepError.{StepError}
 use Rattle.jb_step.specs.declared.error.StepError.TheVariants as error
 use Rattle.jb_saved.specs.GoingOn.{restarted}
-use Rattle.jb_saved.specs.Reading.{answer_of}
-use Rattle.jb_step.specs.restarts.Saving.{text_cause}
 use Rattle.jb_saved.specs.SavedRows.{SavedRows}
-use Rattle.jb_step.specs.Answers.{IsRunError}
 use Rattle.jb_step.specs.callbacks.Callbacks.{has_fault}
 use Rattle.jb_step.specs.preparing.Prepare.{CanOverride, IsFaultedRollback, IsPreparation, IsPrepareRefusal}
 use Rattle.jb_step.specs.preparing.Setup.{Setup, fresh_rows, gone_on, opening_rows, saved_faults}
-use Rattle.jb_records.specs.Causes.{HasSkippedTry, IsCauseOf, written_in}
+use Rattle.jb_records.specs.Causes.{Explains, HasSkippedTry, Joined, Make, Prepare, Unseen, prepare_evenly, rows_in, written_in}
 use Rattle.jb_records.specs.declared.error.RecordsStepError.{RecordsStepError}
 use Rattle.jb_records.specs.declared.error.RecordsStepError.TheVariants.{Memory, Records, Results, SkippedTry, Step}
 use Rattle.jb_records.specs.declared.step.RecordsStep.{RecordsStep}
 use Rattle.jb_records.specs.Function.{Function, tries_of}
 use Rattle.jb_records.specs.Made.{even_partitions, step_record}
 use Rattle.jb_records.specs.Artifacts.{AreNeverSkipped, own_records, record_of}
-use Rattle.jb_records.specs.inside.Calls.{IsTryRefused, IsUnbegun, IsUnbegunBehind, HasNoEnd, IsUnprepared, IsUnpreparedFor, written_by}
 use Rattle.jb_records.specs.PartitionResults.{AreNumbered, joined}
 use Rattle.jb_records.proofs.Calling.{own-length}
 use Rattle.jb_records.proofs.Steps.{well-faults}
@@ -60,32 +55,15 @@ no-fault step records mapped saved before new class (inl at_begin) = let none : 
 no-fault step records mapped saved before new class (inr later) = let none : false ≡ true = sym (well-faults (length before) new) ∙ ap has_fault later.1.calls in cc
 
 pub unprepared : (step : StepRecord) (records : ℕ) (mapped : Result PartitionPlan ClassId) (plan : PartitionPlan) (saved : Option SavedRows) (before : List (AnsweredCall ReducerCall)) (new : List ReducerCall) (e : StepError) → mapped ≡ Ok plan → plan.replace ≡ false
-    → IsPrepareRefusal step records mapped saved (since before (map well new)) e → IsUnprepared step records plan saved (Step e)
+    → IsPrepareRefusal step records mapped saved (since before (map well new)) e → Explains (Prepare step records plan saved Unseen) (Step e)
 unprepared step records mapped plan saved before new (error.Plan fault) maps kept is =
-    subst (λ (p : PartitionPlan). IsUnprepared step records p saved (Step (error.Plan fault))) (plan-is plan is.0 (sym maps ∙ is.1)) is.2
+    subst (λ (p : PartitionPlan). IsFirst fault (plan_errors records p)) (plan-is plan is.0 (sym maps ∙ is.1)) is.2
 unprepared step records mapped plan saved before new (error.Mapper class) maps kept is = absurd (no-plan plan class (sym maps ∙ is))
 unprepared step records mapped plan saved before new (error.Reducer class) maps kept is = absurd (no-fault step records mapped saved before new class is)
-unprepared step records mapped plan saved before new error.WrongArtifacts maps kept is = is
-unprepared step records mapped plan saved before new (error.Repository p) maps kept is = is
-unprepared step records mapped plan saved before new error.Workers maps kept is = is
 unprepared step records mapped plan saved before new (error.Saved place) maps kept is =
     let own = subst (λ (p : PartitionPlan). slice_get (saved_faults step records p.replace saved) 0 ≡ Some place) (plan-is plan is.0 (sym maps ∙ is.1)) is.3 in
     subst (λ (b : Bool). slice_get (saved_faults step records b saved) 0 ≡ Some place) kept own
-unprepared step records mapped plan saved before new error.Memory maps kept is = tt
-
-pub unprepared-for : (step : RecordsStep) (records : ℕ) (saved : Option SavedRows) (e : RecordsStepError) → IsUnprepared (step_record step) records (even_partitions step records) saved e → IsUnpreparedFor step records saved e
-unprepared-for step records saved Records is = absurd is
-unprepared-for step records saved Results is = is
-unprepared-for step records saved SkippedTry is = is
-unprepared-for step records saved (Step why) is = is
-unprepared-for step records saved Memory is = is
-
-pub unbegun : (step : RecordsStep) (records : ℕ) (saved : Option SavedRows) (earlier : ℕ) (e : RecordsStepError) → IsUnpreparedFor step records saved e → IsUnbegun step records saved earlier e
-unbegun step records saved earlier Records is = is
-unbegun step records saved earlier Results is = absurd is
-unbegun step records saved earlier SkippedTry is = is
-unbegun step records saved earlier (Step why) is = is
-unbegun step records saved earlier Memory is = is
+unprepared step records mapped plan saved before new e maps kept is = is
 
 -- ---- THE EARLIER RESULTS ARE OTHERS
 
@@ -109,7 +87,7 @@ again-written (row ∷ rows) =
     let rest = again-written rows in
     omega (arith, first, was, kept, rest)
 
-pub opening-written : (ranges : List Range) (saved : Option SavedRows) → written_in (opening_rows ranges saved) ≡ written_by saved
+pub opening-written : (ranges : List Range) (saved : Option SavedRows) → written_in (opening_rows ranges saved) ≡ written_in (rows_in saved)
 opening-written ranges None = fresh-written ranges
 opening-written ranges (Some held) = again-written held.rows
 
@@ -154,11 +132,11 @@ pub opened-rows : (step : RecordsStep) (records : ℕ) (saved : Option SavedRows
 opened-rows step records saved s its =
     its.rows ∙ ap (λ (b : Bool). opening_rows its.plan.ranges (gone_on b saved)) (ap (λ (p : PartitionPlan). p.replace) (plan-is (even_partitions step records) its.plan its.mapping))
 
-pub others-refused : (step : RecordsStep) (records : ℕ) (saved : Option SavedRows) (earlier : ℕ) (rows : List Row) (ranges : List Range) (e : RecordsStepError) → rows ≡ opening_rows ranges saved
-    → (e ≡ Memory) ⊎ (e ≡ Results) × (earlier ≡ written_in rows → ⊥) → IsUnbegun step records saved earlier e
-others-refused step records saved earlier rows ranges e are (inl memory) = subst (IsUnbegun step records saved earlier) (sym memory) tt
+pub others-refused : (step : RecordsStep) (records : ℕ) (saved : Option SavedRows) (earlier : List (List ℕ)) (rows : List Row) (ranges : List Range) (e : RecordsStepError) → rows ≡ opening_rows ranges saved
+    → (e ≡ Memory) ⊎ (e ≡ Results) × (length earlier ≡ written_in rows → ⊥) → Explains (prepare_evenly step records saved (Joined earlier)) e
+others-refused step records saved earlier rows ranges e are (inl memory) = subst (Explains (prepare_evenly step records saved (Joined earlier))) (sym memory) tt
 others-refused step records saved earlier rows ranges e are (inr others) =
-    subst (IsUnbegun step records saved earlier) (sym others.0) (λ all. others.1 (all ∙ sym (ap written_in are ∙ opening-written ranges saved)))
+    subst (Explains (prepare_evenly step records saved (Joined earlier))) (sym others.0) (λ all. others.1 (all ∙ sym (ap written_in are ∙ opening-written ranges saved)))
 
 -- ---- A FIRST TRY IS SKIPPED
 
@@ -187,97 +165,11 @@ skipped-own f rules records row order below has =
       skipped = λ are. has.skipped (subst (λ bytes. AreNeverSkipped rules (tries_of f bytes)) (sym same) are);
     }
 
-pub refused-own : (f : Function) (rules : RulesRecord) (records : List (List ℕ)) (row : Row) (e : RecordsStepError) → row.lo ≤ row.hi → row.hi ≤ length records → IsTryRefused f rules row.lo (own_records records row) e → IsTryRefused f rules 0 records e
+pub refused-own : (f : Function) (rules : RulesRecord) (records : List (List ℕ)) (row : Row) (e : RecordsStepError) → row.lo ≤ row.hi → row.hi ≤ length records → Explains (Make f rules row.lo (own_records records row)) e
+    → Explains (Make f rules 0 records) e
 refused-own f rules records row Records order below is = is
 refused-own f rules records row Results order below is = is
 refused-own f rules records row SkippedTry order below is = skipped-own f rules records row order below is
-refused-own f rules records row (Step why) order below is = is
+refused-own f rules records row (Step (error.Plan fault)) order below is = is
+refused-own f rules records row (Step e) order below is = is
 refused-own f rules records row Memory order below is = is
-
--- ---- THE STEP THAT WAS BEGUN HAS NO END
-
-pub unended : (f : Function) (rules : RulesRecord) (records : List (List ℕ)) (e : RecordsStepError) → IsTryRefused f rules 0 records e → HasNoEnd f rules records e
-unended f rules records Records is = is
-unended f rules records Results is = is
-unended f rules records SkippedTry is = is
-unended f rules records (Step why) is = absurd is
-unended f rules records Memory is = is
-
-pub broken-off : (f : Function) (rules : RulesRecord) (records : List (List ℕ)) (e : StepError) → IsRunError e → (e ≡ error.WrongArtifacts → ⊥) → HasNoEnd f rules records (Step e)
-broken-off f rules records (error.Plan fault) is fits = is
-broken-off f rules records (error.Mapper class) is fits = is
-broken-off f rules records (error.Reducer class) is fits = is
-broken-off f rules records error.WrongArtifacts is fits = absurd (fits refl)
-broken-off f rules records (error.Repository p) is fits = tt
-broken-off f rules records error.Workers is fits = tt
-broken-off f rules records (error.Saved place) is fits = is
-broken-off f rules records error.Memory is fits = tt
-
--- ---- FROM CALL TO CALL
-
-abbrev AnsweredCall-over : Type 0
-AnsweredCall-over = Option (List ℕ × List (List ℕ))
-
--- anew
-pub begun-anew-refused : (step : RecordsStep) (records : ℕ) (e : RecordsStepError) → IsUnbegun step records None 0 e → IsUnbegunBehind step records None e
-begun-anew-refused step records Records is = is
-begun-anew-refused step records Results is = absurd (is refl)
-begun-anew-refused step records SkippedTry is = is
-begun-anew-refused step records (Step (error.Plan fault)) is = is
-begun-anew-refused step records (Step (error.Mapper class)) is = is
-begun-anew-refused step records (Step (error.Reducer class)) is = is
-begun-anew-refused step records (Step error.WrongArtifacts) is = absurd is
-begun-anew-refused step records (Step (error.Repository p)) is = absurd is
-begun-anew-refused step records (Step error.Workers) is = absurd is
-begun-anew-refused step records (Step (error.Saved place)) is = absurd (cc is)
-begun-anew-refused step records (Step error.Memory) is = is
-begun-anew-refused step records Memory is = is
-
--- behind the rows of a text
-pub begun-behind-refused : (step : RecordsStep) (records : ℕ) (text : List ℕ) (results : List (List ℕ)) (held : SavedRows) (e : RecordsStepError) → answer_of (tree_of text) ≡ Ok held → IsUnbegun step records (Some held) (length results) e
-    → IsUnbegunBehind step records (Some (text, results)) e
-begun-behind-refused step records text results held Records read is = is
-begun-behind-refused step records text results held Results read is = record { held = held; read = read; others = is }
-begun-behind-refused step records text results held SkippedTry read is = is
-begun-behind-refused step records text results held (Step (error.Plan fault)) read is = is
-begun-behind-refused step records text results held (Step (error.Mapper class)) read is = is
-begun-behind-refused step records text results held (Step (error.Reducer class)) read is = is
-begun-behind-refused step records text results held (Step error.WrongArtifacts) read is = absurd is
-begun-behind-refused step records text results held (Step (error.Repository p)) read is = absurd is
-begun-behind-refused step records text results held (Step error.Workers) read is = absurd is
-begun-behind-refused step records text results held (Step (error.Saved place)) read is = inr (record { held = held; read = read; first = is })
-begun-behind-refused step records text results held (Step error.Memory) read is = is
-begun-behind-refused step records text results held Memory read is = is
-
--- the text has no rows
-pub text-refused : (step : RecordsStep) (records : ℕ) (text : List ℕ) (results : List (List ℕ)) (e : StepError) → IsCause (text_cause e) (answer_of (tree_of text)) → IsUnbegunBehind step records (Some (text, results)) (Step e)
-text-refused step records text results (error.Plan fault) is = absurd is
-text-refused step records text results (error.Mapper class) is = absurd is
-text-refused step records text results (error.Reducer class) is = absurd is
-text-refused step records text results error.WrongArtifacts is = absurd is
-text-refused step records text results (error.Repository p) is = absurd is
-text-refused step records text results error.Workers is = absurd is
-text-refused step records text results (error.Saved place) is = inl is
-text-refused step records text results error.Memory is = tt
-
-pub why-unbegun : (f : Function) (step : RecordsStep) (records : List (List ℕ)) (earlier : AnsweredCall-over) (e : RecordsStepError) → IsUnbegunBehind step (length records) earlier e → IsCauseOf f step records earlier e
-why-unbegun f step records earlier Records is = is
-why-unbegun f step records None Results is = is
-why-unbegun f step records (Some given) Results is = is
-why-unbegun f step records earlier SkippedTry is = absurd is
-why-unbegun f step records earlier (Step why) is = is
-why-unbegun f step records earlier Memory is = is
-
-pub why-unended : (f : Function) (step : RecordsStep) (rules : RulesRecord) (records : List (List ℕ)) (earlier : AnsweredCall-over) (e : RecordsStepError) → rules ≡ step.rules → HasNoEnd f rules records e → IsCauseOf f step records earlier e
-why-unended f step rules records earlier Records same is = absurd is
-why-unended f step rules records earlier Results same is = absurd is
-why-unended f step rules records earlier SkippedTry same is = subst (λ (r : RulesRecord). HasSkippedTry f r 0 records) same is
-why-unended f step rules records earlier (Step (error.Plan fault)) same is = absurd is
-why-unended f step rules records earlier (Step (error.Mapper class)) same is = absurd is
-why-unended f step rules records earlier (Step (error.Reducer class)) same is = absurd is
-why-unended f step rules records earlier (Step error.WrongArtifacts) same is = absurd is
-why-unended f step rules records earlier (Step (error.Repository p)) same is = is
-why-unended f step rules records earlier (Step error.Workers) same is = is
-why-unended f step rules records earlier (Step (error.Saved place)) same is = absurd is
-why-unended f step rules records earlier (Step error.Memory) same is = is
-why-unended f step rules records earlier Memory same is = is

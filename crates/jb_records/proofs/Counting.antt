@@ -25,15 +25,12 @@ use Rattle.jb_chunk.specs.declared.outcome.Outcome.TheVariants.{Committed, Rolle
 use Rattle.jb_chunk.proofs.RecordRepeats.{unfound}
 use Rattle.jb_chunk.proofs.SettlingRecord.{numbers-split}
 use Rattle.jb_step.specs.Alone.{AreOnTheWay}
-use Rattle.jb_step.specs.Answers.{IsRunOfStep, StepRun, tasks_after, tasks_before}
 use Rattle.jb_step.specs.rounds.PlanLaws.{AreTasksOf, BeginsWithRows, BeginsWithTasks}
-use Rattle.jb_step.specs.preparing.Prepare.{DoFit}
-use Rattle.jb_step.specs.preparing.Setup.{IsSetup, Setup, first_tasks, fresh_rows, rows_now, unfinished}
+use Rattle.jb_step.specs.preparing.Setup.{Setup, first_tasks, fresh_rows}
 use Rattle.jb_records.specs.Function.{Function, answer_for, refusal_in, refusal_of, result_in, result_of}
 use Rattle.jb_records.specs.Runs.{HasResults, PartsStay, ResultsGoOn}
-use Rattle.jb_records.specs.PartitionResults.{IsSoFar}
 use Rattle.jb_records.specs.Skips.{AreCounted, AreSkipsCounted, NewRowsAreCounted, SkipsAreCounted, skip_by, skips_between}
-use Rattle.jb_records.specs.Steps.{AreArtifacts, StartsFresh}
+use Rattle.jb_records.specs.Steps.{StartsFresh}
 use Rattle.jb_records.specs.Artifacts.{IsArtifactsOver, IsFaulted, IsNeverSkipped, own_records, record_of}
 use Rattle.jb_records.proofs.EachRow.{Stays, TasksStay, rows-stay}
 use Rattle.jb_records.proofs.Going.{Commits, HasBlock, all-written, commit-none, entry-is, live-never, never, never-stops, repeated-task, repeats-have, same-task, way-on, whole_counts}
@@ -214,10 +211,3 @@ new-counted f records (r ∷ rs) = (sym (ap length (skips-none f records r.lo)),
 
 pub anew-counted : NewRowsAreCounted → (f : Function) (records : List (List ℕ)) (count : ℕ) (s : Setup) → StartsFresh count s → AreCounted f records s.rows
 anew-counted law f records count s anew = subst (AreCounted f records) (sym anew.rows) (law f records anew.ranges)
-
--- ---- HOW IT ENDS
-
-pub led-counted : SkipsAreCounted → (f : Function) (records : List (List ℕ)) (partition_results : List (List (List ℕ))) (r : StepRun) → IsRunOfStep r → AreArtifacts f r.setup.rules records partition_results (unfinished r.setup.rows) r.artifacts → DoFit r.setup r.artifacts
-    → AreOnTheWay (tasks_before r) (tasks_after r) → IsSetup r.setup → IsSoFar f records r.setup.rows partition_results → AreCounted f records r.setup.rows → AreCounted f records r.snapshot.rows.items
-led-counted law f records partition_results r run are fit ways is so-far counted =
-    subst (AreCounted f records) (sym (run.rows ∙ ap (rows_now r.setup.rows) (sym run.tasks))) (law f records partition_results r.setup r.artifacts (tasks_after r) is fit are ways so-far counted)

@@ -7,7 +7,6 @@ use Rattle.jb_base.specs.declared.class.ClassId.{ClassId}
 use Rattle.jb_base.specs.declared.range.Range.{Range}
 use Rattle.jb_chunk.specs.Laws.{RepeatsAreRetries, TasksStandAtCheckpoints, WaysJoin}
 use Rattle.jb_chunk.specs.TaskState.{TaskState}
-use Rattle.jb_collect.specs.declared.calls.Status.{Status}
 use Rattle.jb_collect.specs.declared.calls.Status.TheVariants as status
 use Rattle.jb_job.specs.Reading.{tree_of}
 use Rattle.jb_plan.specs.declared.plan.PartitionPlan.{PartitionPlan}
@@ -26,10 +25,9 @@ use Rattle.jb_slices.specs.Function.{Pass}
 use Rattle.jb_slices.specs.Job.{IsRaised}
 use Rattle.jb_slices.proofs.Raising.{still-few}
 use Rattle.jb_step.specs.Alone.{AreOnTheWay}
-use Rattle.jb_step.specs.Answers.{IsRunOfStep, StepRun, tasks_after, tasks_before}
 use Rattle.jb_step.specs.Statuses.{status_of}
-use Rattle.jb_step.specs.preparing.Prepare.{DoFit, IsPreparation}
-use Rattle.jb_step.specs.preparing.Setup.{IsSetup, Setup, first_tasks, fresh_rows, gone_on, opening_rows, row_now, rows_now, unfinished}
+use Rattle.jb_step.specs.preparing.Prepare.{IsPreparation}
+use Rattle.jb_step.specs.preparing.Setup.{Setup, first_tasks, fresh_rows, gone_on, opening_rows, row_now, unfinished}
 use Rattle.jb_step.specs.rounds.PlanLaws.{AreTasksOf, BeginsWithRows, BeginsWithTasks}
 use Rattle.jb_records.specs.Artifacts.{record_of}
 use Rattle.jb_records.specs.declared.step.RecordsStep.{RecordsStep}
@@ -40,14 +38,14 @@ use Rattle.jb_records.specs.Function.{Function, IsSteady, refusal_of}
 use Rattle.jb_records.specs.Made.{even_partitions, step_record}
 use Rattle.jb_records.specs.Runs.{PartsStay, ResultsGoOn}
 use Rattle.jb_records.specs.PartitionResults.{AreAtTheirEnds, ArePartitionResults, IsSoFar}
-use Rattle.jb_records.specs.Steps.{AreArtifacts, StartsFresh, StepsKeepResults}
-use Rattle.jb_records.specs.inside.Following.{EndsOver, GoesOnByRules}
+use Rattle.jb_records.specs.Steps.{StartsFresh}
+use Rattle.jb_records.specs.inside.Following.{GoesOnByRules}
 use Rattle.jb_records.proofs.EachRow.{TasksStay, rows-stay}
 use Rattle.jb_records.proofs.Leading.{way-follows}
 use Rattle.jb_records.proofs.Passing.{fewer-pass, first-passes}
 use Rattle.jb_records.proofs.Resuming.{same-held}
 use Rattle.jb_records.proofs.Skipping.{skips-none}
-use Rattle.jb_records.proofs.Steps.{HaveResults, all-begun, completed-whole, first-ruled, led, range-kept}
+use Rattle.jb_records.proofs.Steps.{HaveResults, all-begun, first-ruled, range-kept}
 
 -- ---- A RUN OF THE STEP
 
@@ -226,15 +224,6 @@ same-raised rules = record { skippable = refl; skips = same-limit rules.skip_lim
 
 -- ---- HOW A RUN ENDS
 
-pub led-following : RulesAreKept → (f : Function) (records : List (List ℕ)) (partition_results : List (List (List ℕ))) (r : StepRun) → IsSteady f → IsRunOfStep r → AreArtifacts f r.setup.rules records partition_results (unfinished r.setup.rows) r.artifacts
-    → DoFit r.setup r.artifacts → AreOnTheWay (tasks_before r) (tasks_after r) → IsSetup r.setup → IsSoFar f records r.setup.rows partition_results → FollowRules f r.setup.rules records r.setup.rows
-    → FollowRules f r.setup.rules records r.snapshot.rows.items
-led-following law f records partition_results r steady run are fit ways is so-far follow =
-    subst (FollowRules f r.setup.rules records) (sym (run.rows ∙ ap (rows_now r.setup.rows) (sym run.tasks))) (law f records partition_results r.setup r.artifacts (tasks_after r) steady is fit are ways so-far follow)
-
-pub led-ranges : RangesStay → (r : StepRun) → IsRunOfStep r → DoFit r.setup r.artifacts → AreOnTheWay (tasks_before r) (tasks_after r) → IsSetup r.setup → ranges_of r.snapshot.rows.items ≡ ranges_of r.setup.rows
-led-ranges law r run fit ways is = ap ranges_of (run.rows ∙ ap (rows_now r.setup.rows) (sym run.tasks)) ∙ law r.setup r.artifacts (tasks_after r) is fit ways
-
 failed-rows : (failed unfinished : Bool) → cond failed status.Failed (cond unfinished status.Stopped status.Completed) ≡ status.Failed → failed ≡ true
 failed-rows true unfinished e = refl
 failed-rows false true e = absurd cc
@@ -243,22 +232,6 @@ failed-rows false false e = absurd cc
 -- a step that is FAILED has a failed partition
 pub has-failed : (rows : List Row) → status_of rows false ≡ status.Failed → HasFailed rows
 has-failed rows e = failed-rows (list_any (λ row. is_failed row.state) rows) (list_any (λ row. not (is_finished row.state)) rows) e
-
-pub ends-by : RulesAreKept → RangesStay → FinishedRowsPass → FailedRowsDont → StepsKeepResults → (f : Function) (records : List (List ℕ)) (partition_results : List (List (List ℕ))) (r : StepRun) (now : Status) → IsSteady f → IsRunOfStep r
-    → AreArtifacts f r.setup.rules records partition_results (unfinished r.setup.rows) r.artifacts → DoFit r.setup r.artifacts → AreOnTheWay (tasks_before r) (tasks_after r) → IsSetup r.setup → IsSoFar f records r.setup.rows partition_results
-    → FollowRules f r.setup.rules records r.setup.rows → now ≡ status_of r.snapshot.rows.items false → EndsOver f r.setup.rules records r.setup.rows r.snapshot.rows.items now
-ends-by law stay finished failed kept f records partition_results r now steady run are fit ways is so-far follow stands =
-    let rows = r.snapshot.rows.items in
-    let so = led kept f records partition_results r run are fit ways is so-far in
-    let follows = led-following law f records partition_results r steady run are fit ways is so-far follow in
-    record {
-      by_rules = record {
-        follows = follows;
-        completed = λ e. finished f r.setup.rules records rows _ so follows (completed-whole rows false (sym stands ∙ e));
-        failed = λ e. failed f r.setup.rules records rows follows (has-failed rows (sym stands ∙ e));
-      };
-      ranges = led-ranges stay r run fit ways is;
-    }
 
 -- behind an earlier run
 pub goes-on-by : (f : Function) (rules : RulesRecord) (records : List (List ℕ)) (text : List ℕ) (own : SavedRows) (earlier : List (List ℕ)) (s : Setup) (partition_results : List (List (List ℕ)))

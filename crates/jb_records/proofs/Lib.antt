@@ -8,6 +8,7 @@ mod Calling
 mod Causes
 mod Counting
 mod EachRow
+mod Ending
 mod Evenly
 mod Following
 mod Going

@@ -14,8 +14,8 @@ use Rattle.jb_saved.specs.GoingOn.{ends_past, restarted, rows_restarted}
 use Rattle.jb_saved.specs.SavedRows.{SavedRows}
 use Rattle.jb_step.specs.Answers.{artifacts_of, tasks_left}
 use Rattle.jb_step.specs.rounds.PlanLaws.{AreTasksOf, BeginsWithRows, BeginsWithTasks}
-use Rattle.jb_step.specs.preparing.Setup.{Setup, first_tasks, needs, rows_now, unfinished}
-use Rattle.jb_records.specs.Following.{FollowRules, ranges_of}
+use Rattle.jb_step.specs.preparing.Setup.{first_tasks, needs, rows_now, unfinished}
+use Rattle.jb_records.specs.Following.{FollowRules}
 use Rattle.jb_records.specs.FollowingLaws.{RaisedRulesFollow, RangesStay, RulesAreKept}
 use Rattle.jb_records.specs.Function.{Function, IsSteady}
 use Rattle.jb_records.specs.Runs.{PartsStay, ResultsGoOn}
@@ -26,6 +26,7 @@ use Rattle.jb_records.specs.inside.Calls.{CanBeginOver}
 use Rattle.jb_records.specs.inside.InMemory.{IsGoingOn, IsRanOver, RowsAreSaved, IntervalsGoOn, ArtifactsFit, is_done, is_left, new_results_from}
 use Rattle.jb_records.proofs.Ahead.{GoAhead, IsAhead, rows-ahead}
 use Rattle.jb_records.proofs.Calling.{artifacts-fit}
+use Rattle.jb_records.proofs.Ending.{led, led-following, led-ranges}
 use Rattle.jb_records.proofs.Following.{same-raised}
 use Rattle.jb_records.proofs.Growing.{grown-all, new_results-length}
 use Rattle.jb_records.proofs.Keeping.{AreDone, all-done, newer-again, newer-parts, artifacts-kept}
@@ -103,15 +104,10 @@ module _ (going : ResultsGoOn) (parts : PartsStay) (begins : BeginsWithTasks) (s
         ran.ways
 
     so-far : IsSoFar f records snapshot.rows.items (newer_partition_results left before.partition_results)
-    so-far =
-        subst (λ (rows : List Row). IsSoFar f records rows (newer_partition_results left before.partition_results)) (sym ran.rows)
-        (subst (λ (ls : List (ℕ × ArtifactsMeaning)). IsSoFar f records (rows_now before.setup.rows now) (newer_partition_results ls before.partition_results)) (sym ran.came_back)
-        (kept f records before.partition_results before.setup (artifacts_in before.artifacts) now stands.setup ran.fit stands.artifacts ran.ways stands.so_far))
+    so-far = led before.setup (artifacts_in before.artifacts) rounds snapshot left ran stands.setup f records before.partition_results stands.artifacts stands.so_far kept
 
     follow : IsSteady f → FollowRules f before.setup.rules records snapshot.rows.items
-    follow steady =
-        subst (FollowRules f before.setup.rules records) (sym ran.rows)
-        (ruled f records before.partition_results before.setup (artifacts_in before.artifacts) now steady stands.setup ran.fit stands.artifacts ran.ways stands.so_far (stands.follows steady))
+    follow steady = led-following before.setup (artifacts_in before.artifacts) rounds snapshot left ran stands.setup f records before.partition_results stands.artifacts stands.so_far ruled steady (stands.follows steady)
 
     done : AreDone f records before.setup snapshot.rows.items now
     done = all-done f records before.setup snapshot.rows.items left first (first-ruled before.setup (unfinished before.setup.rows) (artifacts_in before.artifacts)) have
@@ -186,7 +182,7 @@ module _ (going : ResultsGoOn) (parts : PartsStay) (begins : BeginsWithTasks) (s
             ∙ ap (λ (ls : List (ℕ × ArtifactsMeaning)). grown before.partition_results (new_results_from 0 (map (λ row. row.written) before.setup.rows) ls)) (sym ran.came_back);
         number = new_results-length 0 (map (λ row. row.written) before.setup.rows) left ∙ length-written_before before.setup.rows ∙ sym (same-length before.setup.rows rows aheads);
         same = same-length before.setup.rows rows aheads;
-        ranges = ap ranges_of ran.rows ∙ rangesare before.setup (artifacts_in before.artifacts) now stands.setup ran.fit ran.ways;
+        ranges = led-ranges before.setup (artifacts_in before.artifacts) rounds snapshot left ran stands.setup rangesare;
         further = all-further before.setup.rows rows aheads;
         follows = follow;
         stands = stands-now;
@@ -216,34 +212,30 @@ module _ (going : ResultsGoOn) (parts : PartsStay) (begins : BeginsWithTasks) (s
 
 -- ---- FROM CALL TO CALL
 
--- the run that was made, of the same works
-pub ran-same : (s : Setup) (artifacts same : List ArtifactsMeaning) (rounds : Option ℕ) (snapshot : Snapshot) (left : List (ℕ × ArtifactsMeaning)) → artifacts ≡ same → IsRanOver s artifacts rounds snapshot left → IsRanOver s same rounds snapshot left
-ran-same s artifacts same rounds snapshot left is ran = subst (λ (ws : List ArtifactsMeaning). IsRanOver s ws rounds snapshot left) is ran
-
 pub goes-on : IntervalsGoOn → (f : Function) (records : List (List ℕ)) (before after : RunState) (results : List (List (List ℕ))) (rounds : Option ℕ) (snapshot : Snapshot) (shown : List Row) (left brought finished others : List (ℕ × ArtifactsMeaning))
-    → (artifacts : List ArtifactsMeaning) (put new_results : List (List (List ℕ))) (written_before : List ℕ) (rules : RulesRecord) → StandsOver f records before → before.partition_results ≡ newer_partition_results before.artifacts results → artifacts ≡ artifacts_in before.artifacts
-    → IsRanOver before.setup artifacts rounds snapshot left → rules ≡ before.setup.rules → shown ≡ snapshot.rows.items → finished ≡ filter (is_done shown) left → others ≡ filter (is_left shown) left → put ≡ newer_partition_results finished results
+    → (put new_results : List (List (List ℕ))) (written_before : List ℕ) (rules : RulesRecord) → StandsOver f records before → before.partition_results ≡ newer_partition_results before.artifacts results
+    → IsRanOver before.setup (artifacts_in before.artifacts) rounds snapshot left → rules ≡ before.setup.rules → shown ≡ snapshot.rows.items → finished ≡ filter (is_done shown) left → others ≡ filter (is_left shown) left → put ≡ newer_partition_results finished results
     → IsGoingOn before.step before.records rules snapshot.rows.items others put after → written_before ≡ map (λ row. row.written) before.setup.rows → brought ≡ left → new_results ≡ new_results_from 0 written_before brought
     → HasGoneOn f records before after snapshot.rows.items new_results
-goes-on law f records before after results rounds snapshot shown left brought finished others artifacts put new_results written_before rules stands held own ran ruled same done kept is on was back new =
+goes-on law f records before after results rounds snapshot shown left brought finished others put new_results written_before rules stands held ran ruled same done kept is on was back new =
     let ends = snapshot.rows.items in
     let partition_results : put ≡ newer_partition_results (filter (is_done ends) left) results =
     is ∙ ap (λ (l : List (ℕ × ArtifactsMeaning)). newer_partition_results l results) (done ∙ ap (λ (rs : List Row). filter (is_done rs) left) same) in
     let step = subst (λ (r : RulesRecord). IsGoingOn before.step before.records r ends others put after) ruled on in
     let next = subst (λ (l : List (ℕ × ArtifactsMeaning)). IsGoingOn before.step before.records before.setup.rules ends l put after) (kept ∙ ap (λ (rs : List Row). filter (is_left rs) left) same) step in
     let last = subst (λ (x : List (List (List ℕ))). IsGoingOn before.step before.records before.setup.rules ends (filter (is_left ends) left) x after) partition_results next in
-    let gone = law f records before after results rounds snapshot left stands held (ran-same before.setup artifacts (artifacts_in before.artifacts) rounds snapshot left own ran) last in
+    let gone = law f records before after results rounds snapshot left stands held ran last in
     let written_before-is : new_results ≡ new_results_from 0 (map (λ row. row.written) before.setup.rows) left = new ∙ ap (new_results_from 0 written_before) back ∙ ap (λ (t : List ℕ). new_results_from 0 t left) was in
     subst (HasGoneOn f records before after ends) (sym written_before-is) gone
 
-pub made-of : (before after : RunState) (rounds : Option ℕ) (snapshot : Snapshot) (left others : List (ℕ × ArtifactsMeaning)) (artifacts : List ArtifactsMeaning) (put : List (List (List ℕ))) (rules : RulesRecord)
-    → artifacts ≡ artifacts_in before.artifacts → IsRanOver before.setup artifacts rounds snapshot left → IsGoingOn before.step before.records rules snapshot.rows.items others put after
+pub made-of : (before after : RunState) (rounds : Option ℕ) (snapshot : Snapshot) (left others : List (ℕ × ArtifactsMeaning)) (put : List (List (List ℕ))) (rules : RulesRecord)
+    → IsRanOver before.setup (artifacts_in before.artifacts) rounds snapshot left → IsGoingOn before.step before.records rules snapshot.rows.items others put after
     → rules ≡ before.setup.rules → after.setup.item_count ≡ before.setup.item_count → IsIntervalRun rounds before snapshot after
-made-of before after rounds snapshot left others artifacts put rules own ran on ruled counted = record {
+made-of before after rounds snapshot left others put rules ran on ruled counted = record {
   run = ran.run;
   setup = ran.setup;
   rounds_are = ran.rounds_are;
-  artifacts = ran.artifacts_are ∙ own;
+  artifacts = ran.artifacts_are;
   answered = ran.answered;
   headline = ran.headline;
   on_the_way = ran.on_the_way;

@@ -19,15 +19,14 @@ use Rattle.jb_collect.specs.declared.calls.Status.{Status}
 use Rattle.jb_collect.specs.declared.calls.Status.TheVariants as status
 use Rattle.jb_collect.specs.AnsweredCalls.{AnsweredCall, since, well}
 use Rattle.jb_step.specs.callbacks.Callbacks.{has_fault}
-use Rattle.jb_step.specs.Answers.{IsRunOfStep, IsStatus, StepRun, artifacts_of, tasks_after, tasks_before}
+use Rattle.jb_step.specs.Answers.{IsStatus, artifacts_of}
 use Rattle.jb_step.specs.Statuses.{status_of}
 use Rattle.jb_step.specs.rounds.PlanLaws.{AreTasksOf, BeginsWithRows, BeginsWithTasks}
-use Rattle.jb_step.specs.preparing.Prepare.{DoFit}
-use Rattle.jb_step.specs.preparing.Setup.{IsSetup, Setup, first_tasks, fresh_rows, row_now, rows_now, unfinished}
+use Rattle.jb_step.specs.preparing.Setup.{Setup, first_tasks, fresh_rows, row_now, rows_now, unfinished}
 use Rattle.jb_step.specs.Alone.{AreOnTheWay}
 use Rattle.jb_records.specs.Function.{Function, result_of}
 use Rattle.jb_records.specs.Runs.{HasResults, PartsStay, ResultsGoOn}
-use Rattle.jb_records.specs.PartitionResults.{AreRowsInOrder, AreNumbered, AreRangesOf, ArePartitionResults, AreAtTheirEnds, IsPartitionResult, IsSoFar, NewStepsBegin, newer_share, newer_partition_results}
+use Rattle.jb_records.specs.PartitionResults.{AreRowsInOrder, AreNumbered, AreRangesOf, ArePartitionResults, AreAtTheirEnds, IsPartitionResult, IsSoFar, NewStepsBegin, newer_share}
 use Rattle.jb_records.specs.Steps.{AreArtifacts, StartsFresh, StepsKeepResults}
 use Rattle.jb_records.specs.Artifacts.{IsArtifactsOver, own_records, record_of, results_between}
 use Rattle.jb_records.proofs.Going.{ends-at}
@@ -200,15 +199,6 @@ begun-anew law f records s partition_results anew are =
     subst (λ (rows : List Row). IsSoFar f records rows partition_results) (sym anew.rows) (law f records anew.ranges partition_results anew.order (subst (λ (rows : List Row). AreNumbered rows partition_results) anew.rows are))
 
 -- ---- HOW IT ENDS
-
--- a run of the step leaves its partitions so far, if they were so when it began
-pub led : StepsKeepResults → (f : Function) (records : List (List ℕ)) (partition_results : List (List (List ℕ))) (r : StepRun) → IsRunOfStep r → AreArtifacts f r.setup.rules records partition_results (unfinished r.setup.rows) r.artifacts → DoFit r.setup r.artifacts
-    → AreOnTheWay (tasks_before r) (tasks_after r) → IsSetup r.setup → IsSoFar f records r.setup.rows partition_results → IsSoFar f records r.snapshot.rows.items (newer_partition_results r.left partition_results)
-led kept f records partition_results r run are fit ways is so-far =
-    let ends = sym run.tasks in
-    subst (λ (rows : List Row). IsSoFar f records rows (newer_partition_results r.left partition_results)) (sym (run.rows ∙ ap (rows_now r.setup.rows) ends))
-    (subst (λ (left : List (ℕ × ArtifactsMeaning)). IsSoFar f records (rows_now r.setup.rows (tasks_after r)) (newer_partition_results left partition_results)) (sym (run.came_back ∙ ap artifacts_of ends))
-    (kept f records partition_results r.setup r.artifacts (tasks_after r) is fit are ways so-far))
 
 finished-is : (st : RowState) → not (is_finished st) ≡ false → st ≡ state.Finished
 finished-is state.Waiting e = absurd cc

@@ -6,7 +6,6 @@ use Rattle.jb_base.specs.Pairwise.{Pairwise}
 use Rattle.jb_job.specs.Reading.{tree_of}
 use Rattle.jb_repo.specs.declared.snapshot.Snapshot.{Snapshot}
 use Rattle.jb_rules.specs.declared.row.Row.{Row}
-use Rattle.jb_step.specs.declared.error.StepError.TheVariants as error
 use Rattle.jb_saved.specs.GoingOn.{rows_restarted}
 use Rattle.jb_saved.specs.Reading.{answer_of}
 use Rattle.jb_saved.specs.SavedRows.{SavedRows}
@@ -15,8 +14,6 @@ use Rattle.jb_step.specs.Answers.{StepRun, tasks_after, tasks_before}
 use Rattle.jb_step.specs.Headline.{Headline}
 use Rattle.jb_step.specs.preparing.Setup.{IsSetup, Setup, needs, unfinished}
 use Rattle.jb_step.specs.restarts.StepRuns.{IsAnswered}
-use Rattle.jb_records.specs.declared.error.RecordsStepError.{RecordsStepError}
-use Rattle.jb_records.specs.declared.error.RecordsStepError.TheVariants.{Memory, Step}
 use Rattle.jb_records.specs.declared.step.RecordsStep.{RecordsStep}
 use Rattle.jb_records.specs.Following.{FollowRules, ranges_of}
 use Rattle.jb_records.specs.Function.{Function, IsSteady}
@@ -112,11 +109,3 @@ pub record IsIntervalRun (rounds : Option ℕ) (before : RunState) (snapshot : S
   pub step_is : after.step ≡ before.step
   pub rules_are : after.setup.rules ≡ before.setup.rules
   pub item_count_is : after.setup.item_count ≡ before.setup.item_count
-
--- an interval broke off: its desk wasn't its own, a worker could not be started, or memory ran out
-abbrev pub IsBrokenOff : RecordsStepError → Type 0
-IsBrokenOff (Step (error.Repository partition)) = Unit {0}
-IsBrokenOff (Step error.Workers) = Unit {0}
-IsBrokenOff (Step error.Memory) = Unit {0}
-IsBrokenOff Memory = Unit {0}
-IsBrokenOff _ = ⊥

@@ -7,7 +7,8 @@ ghost use Rattle.jb_artifacts.specs.Faults.{plans_of, with_plan};
 ghost use Rattle.jb_plan.specs.Plans.{IsWithin};
 ghost use Rattle.jb_rules.specs.Rows.{range_of};
 ghost use Rattle.jb_step.specs.preparing.Setup.{unfinished};
-ghost use Rattle.jb_records.specs.inside.Calls.{CanBeginOver, HaveOwn, IsTryRefused};
+ghost use Rattle.jb_records.specs.Causes.{Explains, Make};
+ghost use Rattle.jb_records.specs.inside.Calls.{CanBeginOver, HaveOwn};
 ghost use Rattle.jb_records.specs.Steps.{AreFirstArtifacts, AreArtifactsOf};
 ghost use Rattle.jb_records.specs.Artifacts.{AreNeverSkipped, IsFirstArtifactsOver, IsNeverSkipped, own_records, plan_of, tries_plan};
 
@@ -73,7 +74,7 @@ fn tries_of<F: StepFunction>(
 ) -> Result<FaultPlans, RecordsStepError>
     requires { first + length records.now < 2 ^ 64 }
     ensures never_skipped { IfOk result (λ tries. (k : ℕ) → IsNeverSkipped rules.now (plans_of tries k)) }
-    ensures why { IfErr result (IsTryRefused (F.function function.now) rules.now first records.now) }
+    ensures why { IfErr result (Explains (Make (F.function function.now) rules.now first records.now)) }
     ensures tries { IfOk result (λ tries. (k : ℕ) → plans_of tries k ≡ tries_plan (F.function function.now) first records.now k) }
 {
     let mut tries = FaultPlans::new(alloc);
@@ -107,7 +108,7 @@ fn artifacts_of<F: StepFunction + Drop>(
     results: &PackedList,
 ) -> Result<RecordsArtifacts<F>, RecordsStepError>
     requires { IsWithin (length records.now) (range_of row.now) }
-    ensures why { IfErr result (IsTryRefused (F.function (arc_value function.now)) rules.now 0 records.now) }
+    ensures why { IfErr result (Explains (Make (F.function (arc_value function.now)) rules.now 0 records.now)) }
     ensures artifacts { IfOk result (λ artifacts. IsFirstArtifactsOver (F.function (arc_value function.now)) rules.now row.now.lo (own_records records.now row.now) (⟦<RecordsArtifacts<F> as Meaning>⟧.meaning artifacts)) }
     ensures results { IfOk result (λ artifacts. (⟦<RecordsArtifacts<F> as Meaning>⟧.meaning artifacts).writer.written ≡ results.now) }
 {
@@ -146,7 +147,7 @@ fn artifacts_for<F: StepFunction + Drop>(
     partitions: &[u32],
 ) -> Result<Vec<RecordsArtifacts<F>>, RecordsStepError>
     requires { HaveOwn (length records.now) prepared.now.rows partition_results.now partitions.now }
-    ensures why { IfErr result (IsTryRefused (F.function (arc_value function.now)) rules.now 0 records.now) }
+    ensures why { IfErr result (Explains (Make (F.function (arc_value function.now)) rules.now 0 records.now)) }
     ensures artifacts { IfOk result (λ all. AreArtifactsOf (F.function (arc_value function.now)) rules.now records.now partition_results.now prepared.now.rows partitions.now (map ⟦<RecordsArtifacts<F> as Meaning>⟧.meaning all.items)) }
 {
     let Some((partition, others)) = partitions.split_first() else {
@@ -182,7 +183,7 @@ pub(crate) fn all_artifacts<F: StepFunction + Drop>(
     partition_results: &[PackedList],
 ) -> Result<Vec<RecordsArtifacts<F>>, RecordsStepError>
     requires { CanBeginOver (length records.now) prepared.now.rows partition_results.now }
-    ensures why { IfErr result (IsTryRefused (F.function (arc_value function.now)) rules.now 0 records.now) }
+    ensures why { IfErr result (Explains (Make (F.function (arc_value function.now)) rules.now 0 records.now)) }
     ensures artifacts { IfOk result (λ all. AreFirstArtifacts (F.function (arc_value function.now)) rules.now records.now partition_results.now (unfinished prepared.now.rows) (map ⟦<RecordsArtifacts<F> as Meaning>⟧.meaning all.items)) }
 {
     let all = artifacts_for(

@@ -1,6 +1,6 @@
 //! One interval of a run that stays in memory.
 
-ghost use Rattle.std.specs.Prelude.{◌≡◌, ◌≤◌, List, ℕ, false, map, IfErr, IfOk, None, Ok, string_bytes};
+ghost use Rattle.std.specs.Prelude.{◌≡◌, ◌≤◌, List, ℕ, false, IfErr, IfOk, None, Ok, string_bytes};
 ghost use Rattle.jb_base.specs.Limits.{max_parts, max_records};
 ghost use Rattle.jb_collect.specs.declared.calls.Status.TheVariants.{Completed};
 ghost use Rattle.jb_job.specs.Reading.{tree_of};
@@ -8,16 +8,17 @@ ghost use Rattle.jb_plan.specs.Plans.{IsRunnable};
 ghost use Rattle.jb_saved.specs.Answers.{first_running};
 ghost use Rattle.jb_saved.specs.GoingOn.{ends_past};
 ghost use Rattle.jb_saved.specs.Reading.{answer_of};
-ghost use Rattle.jb_step.specs.Answers.{given_back};
 ghost use Rattle.jb_step.specs.preparing.Prepare.{DoFit};
+ghost use Rattle.jb_step.specs.Answers.{given_back};
 ghost use Rattle.jb_step.specs.Statuses.{status_of};
+ghost use Rattle.jb_records.specs.Causes.{Explains, Run, RunInterval};
 ghost use Rattle.jb_records.specs.Failures.{AreFailures};
 ghost use Rattle.jb_records.specs.Function.{Function};
 ghost use Rattle.jb_records.specs.Made.{even_partitions};
 ghost use Rattle.jb_records.specs.PartitionResults.{AreAtTheirEnds};
 ghost use Rattle.jb_records.specs.Skips.{skipped_of};
-ghost use Rattle.jb_records.specs.Intervals.{HasGoneOn, IsBrokenOff, IsIntervalRun, StandsOver};
-ghost use Rattle.jb_records.specs.inside.InMemory.{IsGoingOn, IsRanOver, IsRunBroken};
+ghost use Rattle.jb_records.specs.Intervals.{HasGoneOn, IsIntervalRun, StandsOver, artifacts_in};
+ghost use Rattle.jb_records.specs.inside.InMemory.{IsGoingOn, IsRanOver};
 
 use crate::artifacts::RecordsArtifacts;
 use crate::error::RecordsStepError;
@@ -71,8 +72,8 @@ impl Interval {
     }
 }
 
-/// One run of the step over its own desk, for so many rounds at most.
-fn ran<
+/// Runs the step over its own desk, for so many rounds at most. Each run of a step over records is one of these.
+pub(crate) fn ran<
     F: StepFunction + Drop + 'static,
     L: Ledger + Send + Sync + 'static,
     R: Threads + Wait + Sync,
@@ -82,16 +83,17 @@ fn ran<
     blank: Blank,
     prepared: Prepared,
     reducer: FaultlessReducer,
-    artifacts: Vec<RecordsArtifacts<F>>,
+    artifacts: Vec<(u32, RecordsArtifacts<F>)>,
     rounds: Option<u64>,
 ) -> Result<StepEnd<RecordsArtifacts<F>>, RecordsStepError>
     requires name { blank.name ≡ L.name }
     requires parts { blank.parts ≡ L.parts }
     requires all { blank.parts ≡ max_parts }
-    ensures ran { IfOk result (λ end. IsRanOver prepared (map ⟦<RecordsArtifacts<F> as Meaning>⟧.meaning artifacts.items) rounds end.snapshot (given_back ⟦<RecordsArtifacts<F> as Meaning>⟧.meaning end.artifacts.items)) }
+    ensures ran { IfOk result (λ end. IsRanOver prepared (artifacts_in (given_back ⟦<RecordsArtifacts<F> as Meaning>⟧.meaning artifacts.items)) rounds end.snapshot (given_back ⟦<RecordsArtifacts<F> as Meaning>⟧.meaning end.artifacts.items)) }
     ensures status { IfOk result (λ end. end.status ≡ status_of end.snapshot.rows.items false) }
-    ensures why { IfErr result (IsRunBroken (DoFit prepared (map ⟦<RecordsArtifacts<F> as Meaning>⟧.meaning artifacts.items))) }
+    ensures why { IfErr result (Explains (Run (DoFit prepared (artifacts_in (given_back ⟦<RecordsArtifacts<F> as Meaning>⟧.meaning artifacts.items))))) }
 {
+    let artifacts = unnumbered(alloc, artifacts)?;
     let desk = prepared.desk::<L>(alloc, blank)?;
     let analyzer = FaultlessAnalyzer::new(alloc);
     let (end, _, _) = run_pooled_step::<Task<RecordsArtifacts<F>>, L, NoGate, R>(
@@ -115,7 +117,7 @@ fn going_on<F: StepFunction + Drop>(
     ensures text { IfOk result (λ r. answer_of (tree_of (string_bytes r.1)) ≡ Ok (record { step = step.id; rows = snapshot.now.rows.items })) }
     ensures state { IfOk result (λ r. IsGoingOn step.id count step.rules snapshot.now.rows.items (given_back ⟦<RecordsArtifacts<F> as Meaning>⟧.meaning artifacts.items) results.items (⟦<RecordsRun<F> as HasRunState>⟧.run_state r.0)) }
     ensures items { IfOk result (λ r. (⟦<RecordsRun<F> as HasRunState>⟧.run_state r.0).setup.item_count ≡ step.item_count) }
-    ensures why { first_running snapshot.now.rows.items ≡ None → ends_past count snapshot.now.rows.items ≡ false → IfErr result IsBrokenOff }
+    ensures why { first_running snapshot.now.rows.items ≡ None → ends_past count snapshot.now.rows.items ≡ false → IfErr result (Explains RunInterval) }
 {
     answers_are_computed();
     let saved = Saved::of(alloc, step.id.as_str(), snapshot)?;
@@ -152,7 +154,7 @@ impl<F: StepFunction + Drop + 'static> RecordsRun<F> {
         ensures made { IfOk result (λ r. IsIntervalRun rounds (⟦<RecordsRun<F> as HasRunState>⟧.run_state self) r.1.snapshot (⟦<RecordsRun<F> as HasRunState>⟧.run_state r.0)) }
         ensures goes_on { (f : Function) (records : List (List ℕ)) → StandsOver f records (⟦<RecordsRun<F> as HasRunState>⟧.run_state self) →
             IfOk result (λ r. HasGoneOn f records (⟦<RecordsRun<F> as HasRunState>⟧.run_state self) (⟦<RecordsRun<F> as HasRunState>⟧.run_state r.0) r.1.snapshot.rows.items r.1.results.items) }
-        ensures why { (f : Function) (records : List (List ℕ)) → StandsOver f records (⟦<RecordsRun<F> as HasRunState>⟧.run_state self) → IfErr result IsBrokenOff }
+        ensures why { (f : Function) (records : List (List ℕ)) → StandsOver f records (⟦<RecordsRun<F> as HasRunState>⟧.run_state self) → IfErr result (Explains RunInterval) }
     {
         let blank = Blank::new(MAX_PARTS);
         self.run_interval_over::<Brand, R>(rt, alloc, blank, rounds)
@@ -195,7 +197,7 @@ impl<F: StepFunction + Drop + 'static> RecordsRun<F> {
         ensures made { IfOk result (λ r. IsIntervalRun rounds (⟦<RecordsRun<F> as HasRunState>⟧.run_state self) r.1.snapshot (⟦<RecordsRun<F> as HasRunState>⟧.run_state r.0)) }
         ensures goes_on { (f : Function) (records : List (List ℕ)) → StandsOver f records (⟦<RecordsRun<F> as HasRunState>⟧.run_state self) →
             IfOk result (λ r. HasGoneOn f records (⟦<RecordsRun<F> as HasRunState>⟧.run_state self) (⟦<RecordsRun<F> as HasRunState>⟧.run_state r.0) r.1.snapshot.rows.items r.1.results.items) }
-        ensures why { (f : Function) (records : List (List ℕ)) → StandsOver f records (⟦<RecordsRun<F> as HasRunState>⟧.run_state self) → IfErr result IsBrokenOff }
+        ensures why { (f : Function) (records : List (List ℕ)) → StandsOver f records (⟦<RecordsRun<F> as HasRunState>⟧.run_state self) → IfErr result (Explains RunInterval) }
     {
         intervals_go_on();
         let RecordsRun {
@@ -207,7 +209,6 @@ impl<F: StepFunction + Drop + 'static> RecordsRun<F> {
             artifacts,
         } = self;
         let written_before = written_counts(alloc, &prepared)?;
-        let artifacts = unnumbered(alloc, artifacts)?;
         let end = ran::<F, L, R>(rt, alloc, blank, prepared, reducer, artifacts, rounds)?;
         let StepEnd {
             status,

@@ -1,57 +1,37 @@
-//! A step over records, from its saved rows to its end.
+//! A step over records, as its run begins.
 
 ghost use Rattle.std.specs.Prelude.{◌≡◌, ◌≤◌, false, length, None, Some, Ok, IfErr, IfOk, IfSome, OnOk};
 ghost use Rattle.jb_base.specs.Limits.{max_records};
 ghost use Rattle.jb_mapper.specs.EvenCover.{even_ranges};
 ghost use Rattle.jb_mapper.specs.Mapping.{even};
-ghost use Rattle.jb_chunk.specs.TaskState.{HasItemCount};
-ghost use Rattle.jb_collect.specs.declared.calls.Status.TheVariants.{Completed};
 ghost use Rattle.jb_step.specs.preparing.Prepare.{IsPreparation};
 ghost use Rattle.jb_step.specs.preparing.Setup.{IsSetup};
-ghost use Rattle.jb_step.specs.Statuses.{status_of};
 ghost use Rattle.jb_records.specs.StoppedRuns.{IsStoppedRun};
-ghost use Rattle.jb_records.specs.Failures.{AreFailures};
-ghost use Rattle.jb_records.specs.Following.{FollowRules};
-ghost use Rattle.jb_records.specs.Function.{Function, IsSteady, all_results};
-ghost use Rattle.jb_records.specs.inside.Following.{EndsOver, IsFresh};
-ghost use Rattle.jb_records.specs.inside.Calls.{CanBeginOver, IsUnbegun, IsUnbegunWith, HasNoEnd, IsUnprepared, IsUnpreparedFor};
-ghost use Rattle.jb_records.specs.Made.{IsStepBegun, IsRunMade, even_partitions, step_record};
+ghost use Rattle.jb_records.specs.Causes.{Explains, Joined, OfEach, Prepare, Unseen, prepare_evenly};
+ghost use Rattle.jb_records.specs.Function.{Function};
+ghost use Rattle.jb_records.specs.inside.Following.{IsFresh};
+ghost use Rattle.jb_records.specs.Made.{IsStepBegun, even_partitions, step_record};
 ghost use Rattle.jb_saved.specs.GoingOn.{rows_restarted};
 ghost use Rattle.jb_records.specs.PartitionResults.{AreNumbered, IsSoFar, joined};
-ghost use Rattle.jb_records.specs.Skips.{AreCounted};
 ghost use Rattle.jb_records.specs.Steps.{StartsFresh};
 
-use crate::artifacts::{RecordsArtifacts, all_artifacts};
-use crate::end::RecordsEnd;
 use crate::error::RecordsStepError;
-use crate::failures::failures_of;
 use crate::laws::{rules_are_kept, skips_are_counted, steps_keep_results};
-use crate::partition_results::{are_numbered, partition_results_of, put_back};
+use crate::partition_results::{are_numbered, partition_results_of};
 use crate::step::RecordsStep;
-use crate::step_function::StepFunction;
-use jb_base::{MAX_RECORDS, Name, PackedList, Rules};
-use jb_chunk::Task;
-use jb_collect::{FaultlessAnalyzer, FaultlessReducer};
+use jb_base::{MAX_RECORDS, Name, PackedList};
+use jb_collect::FaultlessReducer;
 use jb_job::{Spec, Step};
 use jb_mapper::{EvenMapper, PartitionMapper};
-use jb_step::{Prepared, Saved, StepEnd, prepare, run_pooled_step};
-use jb_workers::{Desk, NoGate};
+use jb_step::{Prepared, Saved, prepare};
 use std::alloc::Global;
-use std::sync::ledger::Ledger;
-use std::sync::{Arc, Wait};
-use std::thread::Threads;
 
 /// A step over records that is ready to run: the rows of its partitions, and the results that each has.
 #[derive(Drop)]
 pub(crate) struct RecordsJob {
     pub(crate) prepared: Prepared,
     pub(crate) results: Vec<PackedList>,
-    pub(crate) rules: Rules,
-    pub(crate) item_count: u64,
     pub(crate) reducer: FaultlessReducer,
-    ghost same_rules: { prepared.rules ≡ rules },
-    ghost same_items: { prepared.item_count ≡ item_count },
-    ghost items: { HasItemCount item_count },
 }
 
 impl RecordsJob {
@@ -69,7 +49,7 @@ impl RecordsJob {
         saved: Option<Saved>,
         earlier: &PackedList,
     ) -> Result<RecordsJob, RecordsStepError>
-        ensures why { IfErr result (IsUnbegun step.now (length records.now) saved (length earlier.now)) }
+        ensures why { IfErr result (Explains (prepare_evenly step.now (length records.now) saved (Joined earlier.now))) }
         ensures begun { IfOk result (λ job. IsStepBegun step.now (length records.now) saved earlier.now job.prepared job.results.items) }
         ensures few { OnOk result (length records.now ≤ max_records) }
         ensures new { saved ≡ None → IfOk result (λ job. (f : Function) → IsFresh f step.now records.now job.prepared job.results.items) }
@@ -86,8 +66,6 @@ impl RecordsJob {
         Ok(RecordsJob {
             prepared,
             results,
-            rules: step.rules,
-            item_count: step.item_count,
             reducer,
         })
     }
@@ -103,7 +81,7 @@ impl RecordsJob {
         saved: Saved,
         results: Vec<PackedList>,
     ) -> Result<RecordsJob, RecordsStepError>
-        ensures why { IfErr result (IsUnbegunWith step.now (length records.now) saved results.items) }
+        ensures why { IfErr result (Explains (prepare_evenly step.now (length records.now) (Some saved) (OfEach results.items))) }
         ensures begun { IfOk result (λ job. IsStepBegun step.now (length records.now) (Some saved) (joined results.items) job.prepared job.results.items) }
         ensures few { OnOk result (length records.now ≤ max_records) }
         ensures rows { IfOk result (λ job. job.prepared.rows ≡ rows_restarted saved) }
@@ -120,82 +98,7 @@ impl RecordsJob {
         Ok(RecordsJob {
             prepared,
             results,
-            rules: step.rules,
-            item_count: step.item_count,
             reducer,
-        })
-    }
-
-    /// Runs the step over its desk, for so many rounds at most. At every end, each partition has the results of the records before its
-    /// checkpoint, if it had them at the beginning.
-    ///
-    /// # Errors
-    /// `SkippedTry` if a first try would fail with a class that the rules skip; `Step` with what broke the run off, and `Memory`.
-    pub(crate) fn run<
-        F: StepFunction + Drop + 'static,
-        L: Ledger + Send + Sync + 'static,
-        R: Threads + Wait + Sync,
-    >(
-        self,
-        rt: &R,
-        alloc: Global,
-        desk: &Desk<L>,
-        function: F,
-        records: &PackedList,
-        rounds: Option<u64>,
-    ) -> Result<RecordsEnd, RecordsStepError>
-        requires { CanBeginOver (length records.now) self.prepared.rows self.results.items }
-        ensures why { IfErr result (HasNoEnd (F.function function) self.prepared.rules records.now) }
-        ensures made { IfOk result (λ end. IsRunMade (F.function function) records.now rounds self.prepared self.results.items end.snapshot end.results.items) }
-        ensures status { IfOk result (λ end. end.status ≡ status_of end.snapshot.rows.items false) }
-        ensures failures { IfOk result (λ end. AreFailures (F.function function) self.prepared.rules self.prepared.item_count records.now end.snapshot.rows.items end.failures.items) }
-        ensures so_far { IfOk result (λ end. IsSetup self.prepared → IsSoFar (F.function function) records.now self.prepared.rows self.results.items →
-            IsSoFar (F.function function) records.now end.snapshot.rows.items end.results.items) }
-        ensures whole { IfOk result (λ end. IsSetup self.prepared → IsSoFar (F.function function) records.now self.prepared.rows self.results.items → end.status ≡ Completed →
-            joined end.results.items ≡ all_results (F.function function) records.now) }
-        ensures counted { IfOk result (λ end. IsSetup self.prepared → IsSoFar (F.function function) records.now self.prepared.rows self.results.items →
-            AreCounted (F.function function) records.now self.prepared.rows → AreCounted (F.function function) records.now end.snapshot.rows.items) }
-        ensures by_rules { IfOk result (λ end. IsSteady (F.function function) → IsSetup self.prepared → IsSoFar (F.function function) records.now self.prepared.rows self.results.items →
-            FollowRules (F.function function) self.prepared.rules records.now self.prepared.rows →
-            EndsOver (F.function function) self.prepared.rules records.now self.prepared.rows end.snapshot.rows.items end.status) }
-    {
-        steps_keep_results();
-        skips_are_counted();
-        rules_are_kept();
-        let RecordsJob {
-            prepared,
-            results,
-            rules,
-            item_count,
-            reducer,
-        } = self;
-        let function = Arc::new(alloc, function)?;
-        let artifacts = all_artifacts(alloc, &function, &rules, records, &prepared, &results)?;
-        let analyzer = FaultlessAnalyzer::new(alloc);
-        let (end, _, _) = run_pooled_step::<Task<RecordsArtifacts<F>>, L, NoGate, R>(
-            rt, alloc, desk, prepared, artifacts, analyzer, reducer, rounds, &NoGate,
-        );
-        let end = end?;
-        let StepEnd {
-            status,
-            snapshot,
-            artifacts,
-            ..
-        } = end;
-        let failures = failures_of(
-            alloc,
-            &*function,
-            &rules,
-            item_count,
-            records,
-            &snapshot.rows,
-            &artifacts,
-        )?;
-        Ok(RecordsEnd {
-            status,
-            snapshot,
-            results: put_back(artifacts, results),
-            failures,
         })
     }
 }
@@ -215,7 +118,7 @@ fn prepared_by(
     requires some { 1 ≤ partitions }
     requires mapped { mapping mapper.old records ≡ even partitions threads false records }
     ensures setup { IfOk result IsSetup }
-    ensures why { IfErr result (IsUnprepared step.now records (record { ranges = even_ranges records partitions; threads = threads; replace = false }) saved) }
+    ensures why { IfErr result (Explains (Prepare step.now records (record { ranges = even_ranges records partitions; threads = threads; replace = false }) saved Unseen)) }
     ensures prepared { IfOk result (IsPreparation step.now records (even partitions threads false records) saved) }
     ensures new { saved ≡ None → IfOk result (StartsFresh records) }
     ensures resumed { IfSome saved (λ held. IfOk result (λ prepared. prepared.rows ≡ rows_restarted held)) }
@@ -234,7 +137,7 @@ pub(crate) fn prepared_for(
 ) -> Result<Prepared, RecordsStepError>
     ensures setup { IfOk result IsSetup }
     ensures few { OnOk result (records ≤ max_records) }
-    ensures why { IfErr result (IsUnpreparedFor step.now records saved) }
+    ensures why { IfErr result (Explains (prepare_evenly step.now records saved Unseen)) }
     ensures prepared { IfOk result (IsPreparation (step_record step.now) records (Ok (even_partitions step.now records)) saved) }
     ensures new { saved ≡ None → IfOk result (StartsFresh records) }
     ensures resumed { IfSome saved (λ held. IfOk result (λ prepared. prepared.rows ≡ rows_restarted held)) }

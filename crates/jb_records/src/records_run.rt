@@ -1,6 +1,6 @@
 //! A step over records that stays in memory between its intervals.
 
-ghost use Rattle.std.specs.Prelude.{◌≡◌, ◌≤◌, ◌↔◌, length, IfErr, IfOk, IsTrue, None, Ok};
+ghost use Rattle.std.specs.Prelude.{◌≡◌, ◌≤◌, ◌↔◌, length, IfErr, IfOk, IsTrue, None, Ok, Some};
 ghost use Rattle.std.specs.Arc.{arc_value};
 ghost use Rattle.jb_base.specs.Limits.{max_partitions, max_records};
 ghost use Rattle.jb_job.specs.Reading.{tree_of};
@@ -9,14 +9,15 @@ ghost use Rattle.jb_saved.specs.GoingOn.{rows_restarted};
 ghost use Rattle.jb_saved.specs.Reading.{answer_of};
 ghost use Rattle.jb_saved.specs.SavedRows.{SavedRows};
 ghost use Rattle.jb_step.specs.Answers.{given_back};
+ghost use Rattle.jb_step.specs.preparing.Prepare.{DoFit};
 ghost use Rattle.jb_step.specs.preparing.Setup.{IsSetup};
-ghost use Rattle.jb_records.specs.Causes.{IsCauseBehind, IsCauseOf};
+ghost use Rattle.jb_records.specs.Causes.{Call, Explains, Make, OfEach};
 ghost use Rattle.jb_records.specs.Following.{FollowRules, ranges_of};
 ghost use Rattle.jb_records.specs.Function.{IsSteady};
 ghost use Rattle.jb_records.specs.Made.{even_partitions};
 ghost use Rattle.jb_records.specs.PartitionResults.{AreAtTheirEnds, IsSoFar, newer_partition_results};
-ghost use Rattle.jb_records.specs.Intervals.{ResumesFrom, BeginsEmpty, GoesBy, RunState, StandsOver};
-ghost use Rattle.jb_records.specs.inside.Calls.{CanBeginOver, IsTryRefused};
+ghost use Rattle.jb_records.specs.Intervals.{ResumesFrom, BeginsEmpty, GoesBy, RunState, StandsOver, artifacts_in};
+ghost use Rattle.jb_records.specs.inside.Calls.{CanBeginOver};
 ghost use Rattle.jb_records.specs.inside.InMemory.{IsAsPrepared};
 
 use crate::artifacts::{RecordsArtifacts, all_artifacts};
@@ -77,7 +78,7 @@ impl<F: StepFunction + Drop> RecordsRun<F> {
         function: &Arc<F, Global>,
         records: &PackedList,
     ) -> Result<RecordsRun<F>, RecordsStepError>
-        ensures why { IfErr result (IsCauseOf (F.function (arc_value function.now)) step.now records.now None) }
+        ensures why { IfErr result (Explains (Call (F.function (arc_value function.now)) step.now records.now None)) }
         ensures stands { IfOk result (λ run. StandsOver (F.function (arc_value function.now)) records.now (⟦<RecordsRun<F> as HasRunState>⟧.run_state run)) }
         ensures by { IfOk result (λ run. GoesBy step.now (⟦<RecordsRun<F> as HasRunState>⟧.run_state run)) }
         ensures fresh { IfOk result (λ run. BeginsEmpty step.now.id (⟦<RecordsRun<F> as HasRunState>⟧.run_state run)) }
@@ -100,7 +101,7 @@ impl<F: StepFunction + Drop> RecordsRun<F> {
         saved: &[u8],
         results: Vec<PackedList>,
     ) -> Result<RecordsRun<F>, RecordsStepError>
-        ensures why { IfErr result (IsCauseBehind (F.function (arc_value function.now)) step.now records.now saved.now results.items) }
+        ensures why { IfErr result (Explains (Call (F.function (arc_value function.now)) step.now records.now (Some (saved.now, OfEach results.items)))) }
         ensures by { IfOk result (λ run. GoesBy step.now (⟦<RecordsRun<F> as HasRunState>⟧.run_state run)) }
         ensures behind { IfOk result (λ run. ResumesFrom step.now.id saved.now results.items (⟦<RecordsRun<F> as HasRunState>⟧.run_state run)) }
         ensures stands { IfOk result (λ run. (held : SavedRows) → answer_of (tree_of saved.now) ≡ Ok held → IsSoFar (F.function (arc_value function.now)) records.now held.rows results.items →
@@ -113,7 +114,7 @@ impl<F: StepFunction + Drop> RecordsRun<F> {
     }
 
     /// The run of a step that is prepared: its unfinished partitions have what they work with.
-    fn from_prepared(
+    pub(crate) fn from_prepared(
         alloc: Global,
         step: &RecordsStep,
         function: &Arc<F, Global>,
@@ -126,17 +127,18 @@ impl<F: StepFunction + Drop> RecordsRun<F> {
         requires setup { IsSetup job.prepared }
         requires same_rules { job.prepared.rules ≡ step.now.rules }
         requires same_items { job.prepared.item_count ≡ step.now.item_count }
-        ensures why { IfErr result (IsTryRefused (F.function (arc_value function.now)) step.now.rules 0 records.now) }
+        ensures why { IfErr result (Explains (Make (F.function (arc_value function.now)) step.now.rules 0 records.now)) }
         ensures kept { IfOk result (λ run. IsAsPrepared (F.function (arc_value function.now)) records.now step.now.id job.prepared job.results.items (⟦<RecordsRun<F> as HasRunState>⟧.run_state run)) }
+        ensures step { IfOk result (λ run. run.step ≡ step.now) }
+        ensures results { IfOk result (λ run. run.results.items ≡ job.results.items) }
+        ensures fit { IfOk result (λ run. DoFit run.prepared (artifacts_in (given_back ⟦<RecordsArtifacts<F> as Meaning>⟧.meaning run.artifacts.items))) }
     {
         let RecordsJob {
             prepared,
             results,
-            rules,
             reducer,
-            ..
         } = job;
-        let artifacts = all_artifacts(alloc, function, &rules, records, &prepared, &results)?;
+        let artifacts = all_artifacts(alloc, function, &step.rules, records, &prepared, &results)?;
         let artifacts = numbered(alloc, prepared.needs(), artifacts)?;
         Ok(RecordsRun {
             step: step.copy(alloc)?,

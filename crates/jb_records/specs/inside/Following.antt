@@ -1,11 +1,9 @@
--- How a step begins and ends by its rules.
+-- How a step begins by its rules.
 use Rattle.std.specs.Prelude.{ℕ, ◌≡◌, List, length}
 use Rattle.jb_base.specs.Rules.{RulesRecord}
-use Rattle.jb_collect.specs.declared.calls.Status.{Status}
-use Rattle.jb_rules.specs.declared.row.Row.{Row}
 use Rattle.jb_step.specs.preparing.Setup.{Setup}
 use Rattle.jb_records.specs.declared.step.RecordsStep.{RecordsStep}
-use Rattle.jb_records.specs.Following.{EndsByRules, FollowRules, ranges_of}
+use Rattle.jb_records.specs.Following.{FollowRules, ranges_of}
 use Rattle.jb_records.specs.Function.{Function, IsSteady}
 use Rattle.jb_records.specs.Made.{even_partitions}
 use Rattle.jb_records.specs.PartitionResults.{IsSoFar}
@@ -24,8 +22,3 @@ pub record GoesOnByRules (f : Function) (rules : RulesRecord) (records : List (L
   pub so_far : IsSoFar f records s.rows partition_results
   pub rules_are : s.rules ≡ rules
   pub follows : FollowRules f s.rules records s.rows
-
--- by the rules, and its partitions keep their ranges
-pub record EndsOver (f : Function) (rules : RulesRecord) (records : List (List ℕ)) (before rows : List Row) (status : Status) : Type 0 where
-  pub by_rules : EndsByRules f rules records rows status
-  pub ranges : ranges_of rows ≡ ranges_of before

@@ -1,24 +1,23 @@
 -- What stays in memory of a run.
 use Rattle.std.specs.Prelude.{ℕ, ◌≡◌, ◌+◌, ◌∷◌, [], nat_eq, Bool, true, false, not, if◌then◌else◌, List, Option, None, Some, filter, length, drop, map, slice_get}
 use Rattle.jb_base.specs.Rules.{RulesRecord}
+use Rattle.jb_collect.specs.declared.calls.Status.{Status}
 use Rattle.jb_repo.specs.declared.snapshot.Snapshot.{Snapshot}
-use Rattle.jb_step.specs.declared.error.StepError.TheVariants as error
 use Rattle.jb_saved.specs.Answers.{first_running}
 use Rattle.jb_saved.specs.GoingOn.{ends_past, rows_restarted}
 use Rattle.jb_step.specs.Alone.{AreOnTheWay}
 use Rattle.jb_step.specs.Answers.{AreLeftOnTheWay, StepRun, artifacts_of, tasks_after, tasks_before, tasks_left}
 use Rattle.jb_step.specs.Headline.{Headline}
+use Rattle.jb_step.specs.Statuses.{status_of}
 use Rattle.jb_step.specs.preparing.Prepare.{DoFit}
 use Rattle.jb_step.specs.restarts.StepRuns.{IsAnswered}
-use Rattle.jb_records.specs.declared.error.RecordsStepError.{RecordsStepError}
-use Rattle.jb_records.specs.declared.error.RecordsStepError.TheVariants.{Memory, Step}
 use Rattle.jb_records.specs.PartitionResults.{newer_partition_results}
 use Rattle.jb_artifacts.specs.Meaning.{ArtifactsMeaning}
 use Rattle.jb_rules.specs.declared.row.Row.{Row}
 use Rattle.jb_rules.specs.States.{is_finished}
 use Rattle.jb_step.specs.preparing.Setup.{IsSetup, Setup, first_tasks, needs, rows_now, unfinished}
 use Rattle.jb_records.specs.Function.{Function}
-use Rattle.jb_records.specs.Steps.{AreArtifacts}
+use Rattle.jb_records.specs.Steps.{AreFirstArtifacts}
 use Rattle.jb_records.specs.Intervals.{HasGoneOn, RunState, StandsOver, numbers_in, artifacts_in}
 
 -- the run is as it was prepared, with these shares
@@ -28,7 +27,7 @@ pub record IsAsPrepared (f : Function) (records : List (List ℕ)) (step : List 
   pub setup_is : s.setup ≡ setup
   pub partition_results_are : s.partition_results ≡ partition_results
   pub partitions : numbers_in s.artifacts ≡ needs setup.rows
-  pub artifacts : AreArtifacts f setup.rules records partition_results (unfinished setup.rows) (artifacts_in s.artifacts)
+  pub artifacts : AreFirstArtifacts f setup.rules records partition_results (unfinished setup.rows) (artifacts_in s.artifacts)
 
 -- what a run of the step was, that left this
 pub record IsRanOver (s : Setup) (artifacts : List ArtifactsMeaning) (rounds : Option ℕ) (snapshot : Snapshot) (left : List (ℕ × ArtifactsMeaning)) : Type 0 where
@@ -40,19 +39,20 @@ pub record IsRanOver (s : Setup) (artifacts : List ArtifactsMeaning) (rounds : O
   pub headline : Headline run
   pub on_the_way : AreOnTheWay (tasks_before run) (tasks_after run)
   pub snapshot_is : run.snapshot ≡ snapshot
+  pub left_is : run.left ≡ left
   pub fit : DoFit s artifacts
   pub ways : AreLeftOnTheWay (first_tasks s artifacts) snapshot.rows.items left
   pub rows : snapshot.rows.items ≡ rows_now s.rows (tasks_left (first_tasks s artifacts) snapshot.rows.items left)
   pub came_back : left ≡ artifacts_of (tasks_left (first_tasks s artifacts) snapshot.rows.items left)
 
--- a run broke off: its artifacts don't fit, its desk wasn't its own, a worker could not be started, or memory ran out
-abbrev pub IsRunBroken : (Fit : Type 0) → RecordsStepError → Type 0
-IsRunBroken Fit (Step error.WrongArtifacts) = Fit → ⊥
-IsRunBroken Fit (Step (error.Repository partition)) = Unit {0}
-IsRunBroken Fit (Step error.Workers) = Unit {0}
-IsRunBroken Fit (Step error.Memory) = Unit {0}
-IsRunBroken Fit Memory = Unit {0}
-IsRunBroken Fit _ = ⊥
+-- the run that was prepared so ended after one interval: with this status, these rows, and these results of its partitions
+pub record HasEnded (f : Function) (records : List (List ℕ)) (rounds : Option ℕ) (s : Setup) (partition_results : List (List (List ℕ))) (now : Status) (snapshot : Snapshot) (results : List (List (List ℕ))) : Type 0 where
+  pub artifacts : List ArtifactsMeaning
+  pub first : AreFirstArtifacts f s.rules records partition_results (unfinished s.rows) artifacts
+  pub left : List (ℕ × ArtifactsMeaning)
+  pub ran : IsRanOver s artifacts rounds snapshot left
+  pub status_is : now ≡ status_of snapshot.rows.items false
+  pub results_are : results ≡ newer_partition_results left partition_results
 
 -- the run resumes from these rows, with these works and results
 pub record IsGoingOn (step : List ℕ) (count : ℕ) (rules : RulesRecord) (rows : List Row) (artifacts : List (ℕ × ArtifactsMeaning)) (results : List (List (List ℕ))) (s : RunState) : Type 0 where

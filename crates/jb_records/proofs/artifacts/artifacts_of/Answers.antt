@@ -4,7 +4,7 @@ use Rattle.jb_artifacts.specs.Faults.{FaultTable, plans_of}
 use Rattle.jb_artifacts.specs.Reader.{Reader}
 use Rattle.jb_artifacts.specs.Writer.{Writer}
 use Rattle.jb_records.specs.Artifacts.{tries_plan}
-use Rattle.jb_records.specs.inside.Calls.{IsTryRefused}
+use Rattle.jb_records.specs.Causes.{Explains, Make}
 use Rattle.jb_records.proofs.Causes.{handed-on, refused-own}
 use Rattle.jb_records.proofs.Processing.{over, processor_with}
 use Rattle.jb_records.proofs.artifacts.artifacts_of.Goals as goal
@@ -28,6 +28,6 @@ returns-in_err-tries-clause-why g c =
     let f = g.F.StepFunction.function in
     let e = c.in_err-tries.field-0.0 in
     let row = c.args.row.now in
-    let own = subst (λ a. IsTryRefused (f a) c.args.rules.now row.lo c.in_ok-own.own e) c.deref.ensures c.in_err-tries.ensures.why in
+    let own = subst (λ a. Explains (Make (f a) c.args.rules.now row.lo c.in_ok-own.own) e) c.deref.ensures c.in_err-tries.ensures.why in
     handed-on c.from_residual-in_err-tries.result e _ c.from_residual-in_err-tries.ensures.1
-    (refused-own (f (arc_value c.args.function.now)) c.args.rules.now c.args.records.now row e c.requires.0 c.requires.1 (subst (λ (r : List (List ℕ)). IsTryRefused (f (arc_value c.args.function.now)) c.args.rules.now row.lo r e) c.in_ok-own.ensures own))
+    (refused-own (f (arc_value c.args.function.now)) c.args.rules.now c.args.records.now row e c.requires.0 c.requires.1 (subst (λ (r : List (List ℕ)). Explains (Make (f (arc_value c.args.function.now)) c.args.rules.now row.lo r) e) c.in_ok-own.ensures own))

@@ -1,10 +1,14 @@
-use Rattle.std.proofs.Common.{rules, ◌≡◌, ◌∙◌, ap, refl, sym, Ok, Err}
+use Rattle.std.proofs.Common.{rules, ◌≡◌, ◌∙◌, List, ap, refl, subst, sym, Ok, Err}
+use Rattle.jb_artifacts.specs.Meaning.{ArtifactsMeaning}
 use Rattle.jb_step.specs.Answers.{artifacts_of}
+use Rattle.jb_step.specs.preparing.Prepare.{DoFit}
 use Rattle.jb_step.specs.preparing.Setup.{rows_now}
 use Rattle.jb_records.specs.declared.error.RecordsStepError.TheVariants.{Step}
+use Rattle.jb_records.specs.Causes.{Explains, Run}
 use Rattle.jb_records.proofs.Answered.{err-of, ok-of}
 use Rattle.jb_records.proofs.Breaking.{run-broken}
 use Rattle.jb_records.proofs.Causes.{handed-on}
+use Rattle.jb_records.proofs.Ending.{ran-same}
 use Rattle.jb_records.proofs.Steps.{stands}
 use Rattle.jb_records.proofs.interval.ran.Goals as goal
 
@@ -13,7 +17,8 @@ returns-clause-ran g c =
     let is : c.run_pooled_step-end.result.0 ≡ Ok c.in_ok-end.end = search rules in
     let run = ok-of _ _ _ is c.run_pooled_step-end.ensures.run in
     let fit = ok-of _ _ _ is c.run_pooled_step-end.ensures.fit in
-    let ways = ok-of _ _ _ is c.run_pooled_step-end.ensures.on_the_way in record {
+    let ways = ok-of _ _ _ is c.run_pooled_step-end.ensures.on_the_way in
+    ran-same _ _ _ _ _ _ c.in_ok-artifacts.ensures (record {
       run = _;
       setup = refl;
       artifacts_are = refl;
@@ -22,11 +27,12 @@ returns-clause-ran g c =
       headline = ok-of _ _ _ is c.run_pooled_step-end.ensures.headline;
       on_the_way = ways;
       snapshot_is = refl;
+      left_is = refl;
       fit = fit;
       ways = ways;
       rows = run.rows ∙ ap (rows_now c.args.prepared.rows) (sym run.tasks);
       came_back = run.came_back ∙ ap artifacts_of (sym run.tasks);
-    }
+    })
 
 pub returns-clause-status : goal.returns-clause-status
 returns-clause-status g c =
@@ -38,4 +44,5 @@ returns-in_err-end-clause-why g c =
     let is : c.run_pooled_step-end.result.0 ≡ Err c.in_err-end.field-0.0 = search rules in
     let e = c.in_err-end.field-0.0 in
     handed-on c.from_residual-in_err-end.result (Step e) _ c.from_residual-in_err-end.ensures.1
-    (run-broken _ e (err-of _ _ _ is c.run_pooled_step-end.ensures.causes) (err-of _ _ _ is c.run_pooled_step-end.ensures.wrong))
+    (subst (λ (ws : List ArtifactsMeaning). Explains (Run (DoFit c.args.prepared ws)) (Step e)) c.in_ok-artifacts.ensures
+    (run-broken _ e (err-of _ _ _ is c.run_pooled_step-end.ensures.causes) (err-of _ _ _ is c.run_pooled_step-end.ensures.wrong)))

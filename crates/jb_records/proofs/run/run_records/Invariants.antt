@@ -1,4 +1,4 @@
 use Rattle.jb_records.proofs.run.run_records.Given as goal
 
-abbrev pub ghosts-run_on : goal.ghosts-run_on
-ghosts-run_on g a = record { name = a.blank.name; parts = a.blank.parts }
+abbrev pub ghosts-run_last : goal.ghosts-run_last
+ghosts-run_last g a = record { name = a.blank.name; parts = a.blank.parts }

@@ -37,5 +37,5 @@ returns-clause-begun c =
 pub returns-in_err-results-clause-why : goal.returns-in_err-results-clause-why
 returns-in_err-results-clause-why c =
     handed-on c.from_residual-in_err-results.result c.in_err-results.field-0.0 _ c.from_residual-in_err-results.ensures.1
-    (others-refused c.args.step.now (length c.args.records.now) c.args.saved (length c.args.earlier.now) c.in_ok-prepared.prepared.rows _ c.in_err-results.field-0.0
+    (others-refused c.args.step.now (length c.args.records.now) c.args.saved c.args.earlier.now c.in_ok-prepared.prepared.rows _ c.in_err-results.field-0.0
     (opened-rows c.args.step.now c.len-count.result c.args.saved c.in_ok-prepared.prepared c.in_ok-prepared.ensures.prepared) c.in_err-results.ensures.why)
