@@ -1,48 +1,15 @@
 -- Why an insertion fails, by the name of its error.
-use Rattle.std.proofs.Common.{◌≡◌, ◌⊎◌, ◌≢◌, ◌≤◌, ◌&&◌, inl, inr, ℕ, ◌+◌, ◌^◌, zero, suc, Bool, true, false, not, List, [], ◌∷◌, length, Result, Ok, Err, IfErr, Option, Some, None, option_map, refl, ap, subst, ◌∙◌, arith, true≢false}
-use Rattle.std.proofs.lemmas.List.{length-append}
-use Rattle.std.proofs.lemmas.Bool.{cases_lt}
-use Rattle.std.proofs.lemmas.List.Elements.{All-from_recursion}
-use Rattle.std.proofs.lemmas.List.Sums.{sum_by-cons}
-use Rattle.std.proofs.lemmas.Nat.Bits.{bit_at-zero}
-use Rattle.std.specs.Float.{NotNan}
-use Rattle.std.specs.Int.{bit_at}
+use Rattle.std.proofs.Common.{◌≡◌, ◌⊎◌, ◌≤◌, ◌&&◌, inl, inr, ℕ, ◌+◌, ◌^◌, zero, suc, Bool, true, false, not, List, [], ◌∷◌, length, Err, Option, Some, None, option_map, refl, ap, subst, ◌∙◌, arith, true≢false}
+use Rattle.std.{proofs.lemmas.List.length-append, proofs.lemmas.Bool.cases_lt, proofs.lemmas.Option.{none-some, same_Some}, proofs.lemmas.List.Elements.All-from_recursion, proofs.lemmas.List.Sums.sum_by-cons, proofs.lemmas.Nat.Bits.bit_at-zero, specs.Float.NotNan, specs.Int.bit_at}
 use lib.Ieee.{is_nan}
-use Rattle.sqlite.specs.declared.types.Value.{Value}
+use Rattle.sqlite.{specs.declared.types.Value.Value, specs.declared.error.Error.Error, specs.declared.error.Error.TheVariants.SqliteFailure, specs.Order.Row, specs.Source.TheVariants.Values, specs.Effect.edit_error, specs.Rows.{Task, Sourced, Inserts, stamped}, specs.Does.Does, specs.State.{State, mode_of, Executes}, specs.Schema.Schema, specs.Edit.{Edit, edit_of}, specs.Rowids.TheVariants.Chosen}
 use Rattle.sqlite_value.specs.Order.{number as number_of}
-use Rattle.sqlite_trees.specs.View.{IsStorable}
-use Rattle.sqlite.specs.declared.error.Error.{Error}
-use Rattle.sqlite.specs.declared.error.Error.TheVariants.{SqliteFailure}
+use Rattle.sqlite_trees.{specs.View.IsStorable, specs.Tree.Trees}
+use Rattle.sqlite_schema.{specs.declared.schema.Constraint.TheVariants.{PrimaryKey, ForeignKey}, specs.declared.schema.Keys.Keys, specs.Rules.table_reals}
+use Rattle.sqlite_rules.{specs.declared.error.Refusal.Refusal, specs.declared.error.Refusal.TheVariants.Violates, specs.Edit.{are_fresh, left_by, taken_by, IsOversized, IsRefused}, specs.Lists.Has, specs.Action.{Writes, Leads, works}}
+use Rattle.jb_slice_file.specs.{declared.error.StoreError.StoreError, declared.error.StoreError.TheVariants.{Taken, TooLong, TooMany}, Errors.{refusal_named, IsCaused, IsStoreFault}, TableSchema.{checkpoint, checkpoint_schema}, Rows.{HasNumber, HoldsList, IsTooLong, stored}, CheckpointBytes.CheckpointBytes, Chain.Linked}
+use Rattle.jb_slice_file.proofs.{Failing.by_execution, Texts.{insert_text, terms, insert_is}, Written.{command, insert_statement, params, cast_int, cast_null}, Lists.taken_has}
 use Rattle.sqlite.specs.declared.error.ErrorCode.TheVariants as code
-use Rattle.sqlite_schema.specs.declared.schema.Constraint.TheVariants.{PrimaryKey, ForeignKey}
-use Rattle.sqlite_rules.specs.declared.error.Refusal.{Refusal}
-use Rattle.sqlite_rules.specs.declared.error.Refusal.TheVariants.{Violates}
-use Rattle.sqlite_trees.specs.Tree.{Trees}
-use Rattle.sqlite.specs.Order.{Row}
-use Rattle.sqlite.specs.Source.TheVariants.{Values}
-use Rattle.sqlite.specs.Effect.{edit_error}
-use Rattle.sqlite.specs.Rows.{Task, Sourced, Inserts, stamped}
-use Rattle.sqlite.specs.Does.{Does}
-use Rattle.sqlite.specs.State.{State, mode_of, Executes}
-use Rattle.jb_slice_file.specs.declared.error.StoreError.{StoreError}
-use Rattle.jb_slice_file.specs.declared.error.StoreError.TheVariants.{Taken, TooLong, TooMany}
-use Rattle.jb_slice_file.specs.Errors.{refusal_named, IsCaused, IsStoreFault}
-use Rattle.jb_slice_file.specs.TableSchema.{checkpoint, checkpoint_schema}
-use Rattle.jb_slice_file.specs.Rows.{HasNumber, HoldsList, IsTooLong, stored}
-use Rattle.jb_slice_file.specs.CheckpointBytes.{CheckpointBytes}
-use Rattle.jb_slice_file.specs.Chain.{Linked}
-use Rattle.sqlite.specs.Schema.{Schema}
-use Rattle.sqlite.specs.Edit.{Edit, edit_of}
-use Rattle.sqlite.specs.Rowids.TheVariants.{Chosen}
-use Rattle.sqlite_schema.specs.declared.schema.Keys.{Keys}
-use Rattle.sqlite_rules.specs.Edit.{are_fresh, left_by, taken_by, IsOversized, IsRefused}
-use Rattle.sqlite_rules.specs.Lists.{Has}
-use Rattle.sqlite_schema.specs.Rules.{table_reals}
-use Rattle.sqlite_rules.specs.Action.{Writes, Leads, works}
-use Rattle.jb_slice_file.proofs.Failing.{by_execution}
-use Rattle.jb_slice_file.proofs.Texts.{insert_text, terms, insert_is}
-use Rattle.jb_slice_file.proofs.Written.{command, insert_statement, params, cast_int, cast_null}
-use Rattle.jb_slice_file.proofs.Lists.{taken_has}
 
 -- a row sets nothing off, and so nothing that it sets off fails
 goes_on : (schema : Schema) (keys : Keys) (db : Trees) (why : Option Refusal) (n : ℕ) → Leads schema keys n db [] (Err why) → ⊥
@@ -80,13 +47,9 @@ too_long number one wide (inl never) = elim (cases_lt (10 ^ 9) (122 + length one
   | inr short ↦ absurd (never (storable number one wide short, omega arith))
 ]
 
-only_one : (row other : Row) → Has (other ∷ []) row → row ≡ other
-only_one row other (inl same) = same
-only_one row other (inr none) = absurd none
-
-answered_calls_of : (b : Bool) → (not b && true) ≡ false → b ≡ true
-answered_calls_of true h = refl
-answered_calls_of false h = absurd (true≢false h)
+taken : (b : Bool) → (not b && true) ≡ false → b ≡ true
+taken true stale = refl
+taken false stale = absurd (true≢false stale)
 
 module _ (old new : State) (all : List CheckpointBytes) (holds : HoldsList old.now all) (it : Linked) (wide : length it.link ≡ 32) (number : ℕ) (full : Type 0) where
   abbrev Why : StoreError → Type 0
@@ -134,24 +97,25 @@ module _ (old new : State) (all : List CheckpointBytes) (holds : HoldsList old.n
   there : (rows : List Row) → IsRow rows → (why : Option Refusal) → Stopped why rows → why ≡ Some (Violates PrimaryKey) → HasNumber all number
   there rows news why writes is =
       let fresh = refused checkpoint_schema (mode_of old).keys old.now.trees (edit rows) refl (subst (λ w. Stopped w rows) is writes) in
-      taken_has (old.now.trees 0) all number it holds.rows (answered_calls_of _ (subst (λ n. are_fresh (old.now.trees 0) n ≡ false) news fresh))
+      taken_has (old.now.trees 0) all number it holds.rows (taken _ (subst (λ n. are_fresh (old.now.trees 0) n ≡ false) news fresh))
 
   too_big : NotWritten None → IsTooLong it.it
   too_big (inl h) = absurd h
   too_big (inr (rows, news, Some r, writes, is)) = absurd cc
   too_big (inr (rows, news, None, writes, is)) =
       let big = oversized checkpoint_schema (mode_of old).keys old.now.trees (edit rows) refl writes in
-      let same : big.0 ≡ stored number it = only_one _ _ (subst (λ n. Has n big.0) news big.1) in
+      let same : big.0 ≡ stored number it = elim (subst (λ n. Has n big.0) news big.1) [ inl one ↦ one | inr none ↦ absurd none ] in
       too_long number it wide (subst (IsOversized checkpoint_schema checkpoint) same big.2)
 
   abbrev Fails : Option Error → Type 0
   Fails why = Does old.step_limit (mode_of old) (params number it) (record old.now { schema = checkpoint_schema }) insert_statement None command (Err why)
 
-  long : Fails None → IsTooLong it.it
-  long (inl h) = let same : h.0 ≡ None = (let k = h.2 in cc) in too_big (subst NotWritten same (not_written h.0 h.1))
-  long (inr (w, s, inl h)) = absurd (let k = h.1.1 in let m = h.2 in cc)
-  long (inr (w, s, inr (d, t, inl h))) = absurd (let k = h.1 in cc)
-  long (inr (w, s, inr (d, t, inr h))) = absurd (let k = h.2 in cc)
+  -- the row wasn't written, or it was, and broke a reference
+  stopped : (stop : Option Error) → Fails stop → NotWritten stop ⊎ (stop ≡ Some (SqliteFailure (code.ConstraintViolation ForeignKey)))
+  stopped stop (inl h) = let same : h.0 ≡ stop = (let k = h.2 in cc) in inl (subst NotWritten same (not_written h.0 h.1))
+  stopped stop (inr (w, s, inl h)) = inr (let k = h.1.1 in let m = h.2 in cc)
+  stopped stop (inr (w, s, inr (d, t, inl h))) = absurd (let k = h.1 in cc)
+  stopped stop (inr (w, s, inr (d, t, inr h))) = absurd (let k = h.2 in cc)
 
   module _ (e : Error) where
     by_row : NotWritten (Some e) → Why (refusal_named e)
@@ -161,16 +125,9 @@ module _ (old new : State) (all : List CheckpointBytes) (holds : HoldsList old.n
     by_row (inr (rows, news, Some r, writes, is)) = let same : e ≡ edit_error r = cc in rw same (by_rules r (λ k. there rows news (Some r) writes (ap Some k)))
 
     by_insertion : Fails (Some e) → Why (refusal_named e)
-    by_insertion (inl h) = let same : h.0 ≡ Some e = (let k = h.2 in cc) in by_row (subst NotWritten same (not_written h.0 h.1))
-    by_insertion (inr (w, s, inl h)) = let same : e ≡ SqliteFailure (code.ConstraintViolation ForeignKey) = (let k = h.1.1 in let m = h.2 in cc) in rw same tt
-    by_insertion (inr (w, s, inr (d, t, inl h))) = absurd (let k = h.1 in cc)
-    by_insertion (inr (w, s, inr (d, t, inr h))) = absurd (let k = h.2 in cc)
+    by_insertion h = elim (stopped (Some e) h) [ inl unwritten ↦ by_row unwritten | inr broken ↦ let same = same_Some e _ broken in rw same tt ]
 
-    caused : Executes insert_text (params number it) old new (Err e) → Why (refusal_named e)
+    pub caused : Executes insert_text (params number it) old new (Err e) → Why (refusal_named e)
     caused =
         let ours = λ (why : Option Error). subst (λ x. Does old.step_limit (mode_of old) (params number it) (record old.now { schema = x }) insert_statement None command (Err why)) holds.schema in
-        by_execution old new Why faulty e insert_text (params number it) checkpoint_schema holds.schema command insert_is.0 insert_is.1 (λ d. by_insertion (ours (Some e) d)) (λ d. long (ours None d))
-
-  pub causes : (r : Result ℕ Error) → Executes insert_text (params number it) old new r → IfErr r (λ e. IsCaused old new (HasNumber all number) (IsTooLong it.it) full (refusal_named e))
-  causes (Ok n) h = tt
-  causes (Err e) h = caused e h
+        by_execution old new Why faulty e insert_text (params number it) checkpoint_schema holds.schema command insert_is.0 insert_is.1 (λ d. by_insertion (ours (Some e) d)) (λ d. elim (stopped None (ours None d)) [ inl unwritten ↦ too_big unwritten | inr broken ↦ absurd (none-some _ broken) ])

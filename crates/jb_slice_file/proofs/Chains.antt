@@ -1,14 +1,8 @@
 -- What a chain of digests tells.
 use Rattle.std.proofs.Common.{◌≡◌, ℕ, suc, ◌+◌, ◌<◌, ◌^◌, List, [], ◌∷◌, ◌++◌, append_assoc, length, map, take, drop, refl, ap, sym, ◌∙◌, arith}
-use Rattle.std.specs.Int.{w64, from_le_bytes, to_le_bytes}
-use Rattle.std.proofs.Math.Seq.{take-append_seam, drop-append_seam}
-use Rattle.std.proofs.lemmas.List.{length-map}
-use Rattle.std.proofs.lemmas.Nat.{from_le_bytes-to_le_bytes_8}
-use Rattle.sha2.specs.Sha256.{sha256}
-use Rattle.sha2.proofs.Facts256.{length-sha256}
-use Rattle.jb_slice_file.specs.CheckpointBytes.{CheckpointBytes}
-use Rattle.jb_slice_file.specs.Chain.{Linked, chained, chained_from, last_from, last_link, link_of, linked, no_link}
-use Rattle.jb_slice_file.specs.ChainLaws.{AreShort, FrontsAreChained, LastLinksIdentifyLists, TellsChainsApart}
+use Rattle.std.{specs.Int.{w64, from_le_bytes, to_le_bytes}, proofs.Math.Seq.{take-append_seam, drop-append_seam}, proofs.lemmas.List.length-map, proofs.lemmas.Nat.from_le_bytes-to_le_bytes_8}
+use Rattle.sha2.{specs.Sha256.sha256, proofs.Facts256.length-sha256}
+use Rattle.jb_slice_file.specs.{CheckpointBytes.CheckpointBytes, Chain.{Linked, chained, chained_from, last_from, last_link, link_of, linked, no_link}, ChainLaws.{AreShort, FrontsAreChained, LastLinksIdentifyLists, TellsChainsApart}}
 
 -- ---- one checkpoint more
 

@@ -1,15 +1,9 @@
 -- The rows that are read, one by one.
 use Rattle.std.proofs.Common.{◌≡◌, ◌+◌, ◌<◌, ◌++◌, ℕ, suc, pos, List, [], ◌∷◌, length, map, take, get_or, refl, sym, ap, ◌∙◌, arith}
-use Rattle.std.specs.List.{AllByRecursion}
-use Rattle.std.proofs.lemmas.List.{map-append, take_more}
-use Rattle.sqlite.specs.declared.types.Value.{Value}
-use Rattle.sqlite.specs.declared.types.Value.TheVariants.{Int, Text as Words, Blob as Bytes}
+use Rattle.std.{specs.List.AllByRecursion, proofs.lemmas.List.{map-append, take_more}}
+use Rattle.sqlite.{specs.declared.types.Value.Value, specs.declared.types.Value.TheVariants.{Int, Text as Words, Blob as Bytes}}
 use Rattle.sqlite_value.specs.Order.{Row, column}
-use Rattle.jb_slice_file.specs.declared.numbered.Found.{Found}
-use Rattle.jb_slice_file.specs.CheckpointBytes.{CheckpointBytes}
-use Rattle.jb_slice_file.specs.Chain.{Linked, chained}
-use Rattle.jb_slice_file.specs.Numbered.{Numbered, numbered, numbered_from}
-use Rattle.jb_slice_file.specs.Rows.{columns_of, shown_from}
+use Rattle.jb_slice_file.specs.{declared.numbered.Found.Found, CheckpointBytes.CheckpointBytes, Chain.{Linked, chained}, Numbered.{Numbered, numbered, numbered_from}, Rows.{columns_of, shown_from}}
 use Rattle.jb_slice_file.proofs.Chains.{chained_once}
 
 -- a row of four values

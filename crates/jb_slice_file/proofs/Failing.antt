@@ -1,30 +1,12 @@
 -- Why a statement fails, by the name of its error: one that makes the table, one that reads it, and any other.
-use Rattle.std.proofs.Common.{◌≡◌, ◌∙◌, inl, inr, ℕ, List, append-nil, Ok, Err, Option, Some, None, sym, ap, subst, subst₂, ◌≤◌, ◌+◌, ◌*◌, ◌^◌, false, [], ◌∷◌, length, codes, Result, IfErr, arith}
+use Rattle.std.proofs.Common.{◌≡◌, ◌∙◌, inl, inr, ℕ, List, append-nil, Ok, Err, Option, Some, None, sym, ap, subst, subst₂, ◌≤◌, ◌+◌, ◌*◌, ◌^◌, false, [], ◌∷◌, length, codes, arith}
 use Rattle.std.proofs.lemmas.Bool.{cases_Bool}
-use Rattle.sqlite.specs.declared.error.Error.{Error}
-use Rattle.sqlite.specs.declared.error.Error.TheVariants.{ExecuteReturnedResults}
-use Rattle.sqlite_trees.specs.declared.error.StoreError.{StoreError as Cause}
-use Rattle.sqlite_trees.specs.declared.error.StoreError.TheVariants.{Unstorable}
+use Rattle.sqlite.{specs.declared.error.Error.Error, specs.declared.error.Error.TheVariants.ExecuteReturnedResults, specs.Command.Command, specs.Order.Row, specs.Schema.Schema, specs.Does.{Does, MakesSequence, MakesTable, lacks_sequence}, specs.Listing.understood, specs.Clock.timed, specs.State.{State, mode_of, Executes, ExecutesIn, IsNotRun, IsNoStatement, RunsCommand, Fails, HasCause, store_error, shows_rows, text_of, FailsToQuery, FailsToShow}, proofs.Callers.{IsPlain, command_of, statement_of}, specs.Command.TheVariants.{CreateTable, Select}, specs.Change.created, specs.Compile.table_defined_by, specs.Effect.{Database, RefusesToRead, alter_error}, specs.Table.Table}
+use Rattle.sqlite_trees.{specs.declared.error.StoreError.StoreError as Cause, specs.declared.error.StoreError.TheVariants.Unstorable}
 use Rattle.sqlite_resolve.specs.declared.compiled.Compiled.{Compiled}
-use Rattle.sqlite.specs.Command.{Command}
-use Rattle.sqlite.specs.Order.{Row}
-use Rattle.sqlite.specs.Schema.{Schema}
-use Rattle.sqlite.specs.Does.{Does, MakesSequence, MakesTable, lacks_sequence}
-use Rattle.sqlite.specs.Listing.{understood}
-use Rattle.sqlite.specs.Clock.{timed}
-use Rattle.sqlite.specs.State.{State, mode_of, Executes, ExecutesIn, IsNotRun, IsNoStatement, RunsCommand, Fails, HasCause, store_error, shows_rows, text_of, FailsToQuery, FailsToShow}
-use Rattle.sqlite.proofs.Callers.{IsPlain, command_of, statement_of}
-use Rattle.jb_slice_file.specs.declared.error.StoreError.{StoreError}
-use Rattle.jb_slice_file.specs.declared.error.StoreError.TheVariants.{TooLong}
-use Rattle.jb_slice_file.specs.Errors.{refusal_named, IsStoreFault, IsOpenCause}
+use Rattle.jb_slice_file.specs.{declared.error.StoreError.StoreError, declared.error.StoreError.TheVariants.TooLong, Errors.{refusal_named, IsStoreFault, IsOpenCause}, TableSchema.{checkpoint, checkpoint_schema, no_schema}}
 use Rattle.sqlite_catalog.specs.Calls.{RefusesTable}
-use Rattle.sqlite.specs.Command.TheVariants.{CreateTable, Select}
-use Rattle.sqlite.specs.Change.{created}
-use Rattle.sqlite.specs.Compile.{table_defined_by}
-use Rattle.sqlite.specs.Effect.{Database, RefusesToRead, alter_error}
-use Rattle.sqlite.specs.Table.{Table}
 use Rattle.sqlite_disk.specs.Disk.{MoreFaults}
-use Rattle.jb_slice_file.specs.TableSchema.{checkpoint, checkpoint_schema, no_schema}
 use Rattle.jb_slice_file.proofs.Texts.{create_text, query, select_text, create_is, select_is}
 use Rattle.sqlite_catalog.specs.declared.error.Refusal as alter
 use Rattle.sqlite_catalog.specs.declared.error.Refusal.TheVariants as refusal
@@ -122,13 +104,9 @@ module _ (old new : State) where
     never_long (inl (stop, inr h, is)) = alone old.now h.0 stop has h.1 h.2
     never_long (inr h) = let k = h.2 in cc
 
-    unmade : Executes create_text [] old new (Err e) → IsStoreFault old new (refusal_named e)
+    pub unmade : Executes create_text [] old new (Err e) → IsStoreFault old new (refusal_named e)
     unmade = by_execution old new (IsStoreFault old new) (λ x f. f) e create_text [] no_schema has CreateTable create_is.0 create_is.3
         (λ d. refused (subst (λ t. Unmade t (Some e)) create_is.1 d)) (λ d. never_long (subst (λ t. Unmade t None) create_is.1 d))
-
-  pub not_made : old.now.schema ≡ no_schema → (r : Result ℕ Error) → Executes create_text [] old new r → IfErr r (λ e. IsStoreFault old new (refusal_named e))
-  not_made has (Ok n) h = tt
-  not_made has (Err e) h = unmade has e h
 
   -- its rows aren't read
   pub not_read : old.now.schema ≡ checkpoint_schema → (e : Error) → FailsToQuery select_text [] old new e → IsStoreFault old new (refusal_named e)

@@ -1,21 +1,13 @@
 -- The rows of a table, in any order, and the checkpoints that they are.
 use Rattle.std.proofs.Common.{◌≡◌, ◌<◌, ◌≤◌, ◌+◌, inl, inr, ℕ, suc, pos, List, [], ◌∷◌, ◌++◌, length, map, Bool, true, false, Ordering, Less, Equal, Greater, IsPermutation, refl, sym, ap, subst, ◌∙◌, arith, true≢false}
-use Rattle.std.specs.List.{AllByRecursion}
-use Rattle.std.specs.Ordering.{is_eq, int_cmp, ordering_then, match_ordering}
-use Rattle.std.proofs.lemmas.List.Sorted.{list_any-IsPermutation, IsPermutation-refl, IsPermutation-cons, IsPermutation-trans, IsPermutation-middle, IsPermutation-sym}
-use Rattle.std.proofs.lemmas.Bool.{cases_Bool}
-use Rattle.std.proofs.lemmas.Map.Lookups.{exact_signed}
+use Rattle.std.{specs.List.AllByRecursion, specs.Ordering.{is_eq, int_cmp, ordering_then, match_ordering}, proofs.lemmas.List.Sorted.{list_any-IsPermutation, IsPermutation-refl, IsPermutation-cons, IsPermutation-trans, IsPermutation-middle, IsPermutation-sym}, proofs.lemmas.Bool.cases_Bool, proofs.lemmas.Map.Lookups.exact_signed}
 use Rattle.sqlite.specs.declared.types.Value.TheVariants.{Int}
-use Rattle.sqlite_value.specs.Order.{Row, value_cmp}
-use Rattle.sqlite_value.proofs.OrderLemmas.{value_cmp-Int}
+use Rattle.sqlite_value.{specs.Order.{Row, value_cmp}, proofs.OrderLemmas.value_cmp-Int}
 use Rattle.sqlite_trees.specs.Tree.{rowid, put_row, IsAscending}
 use Rattle.sqlite_rules.specs.Edit.{is_taken}
 use Rattle.sqlite_sql.specs.Query.{Output, output, output_cmp}
-use Rattle.jb_slice_file.specs.Rows.{HasNumber, stored, shown, stored_from, shown_from}
-use Rattle.jb_slice_file.specs.CheckpointBytes.{CheckpointBytes}
-use Rattle.jb_slice_file.specs.Chain.{Linked, chained}
-use Rattle.jb_slice_file.proofs.Chains.{as_many}
-use Rattle.jb_slice_file.proofs.Texts.{query}
+use Rattle.jb_slice_file.specs.{Rows.{HasNumber, stored, shown, stored_from, shown_from}, CheckpointBytes.CheckpointBytes, Chain.{Linked, chained}}
+use Rattle.jb_slice_file.proofs.{Chains.as_many, Texts.query}
 
 -- a row whose number is free is one row more
 pub put_adds : (new : Row) (rows : List Row) → is_taken rows new ≡ false → IsPermutation (new ∷ rows) (put_row new rows)

@@ -1,13 +1,7 @@
 -- The numbers and the links of checkpoints that were found.
 use Rattle.std.proofs.Common.{◌≡◌, ◌≢◌, ◌+◌, ℕ, suc, pos, append_assoc, List, [], ◌∷◌, ◌++◌, length, length-append, map, sym, ap, ◌∙◌, arith}
 use Rattle.std.proofs.lemmas.List.{map-append, length-map}
-use Rattle.jb_slice_file.specs.declared.checkpoint.Checkpoint.{Checkpoint}
-use Rattle.jb_slice_file.specs.declared.numbered.Found.{Found}
-use Rattle.jb_slice_file.specs.declared.list_end.ListEnd.{ListEnd}
-use Rattle.jb_slice_file.specs.CheckpointBytes.{CheckpointBytes, checkpoint_bytes}
-use Rattle.jb_slice_file.specs.Chain.{Linked, chained, chained_from, last_from, last_link, link_of, no_link}
-use Rattle.jb_slice_file.specs.ListEnd.{IsAfter, IsEndOf}
-use Rattle.jb_slice_file.specs.Numbered.{IsAlteredAt, Numbered, numbered, numbered_from}
+use Rattle.jb_slice_file.specs.{declared.checkpoint.Checkpoint.Checkpoint, declared.numbered.Found.Found, declared.list_end.ListEnd.ListEnd, CheckpointBytes.{CheckpointBytes, checkpoint_bytes}, Chain.{Linked, chained, chained_from, last_from, last_link, link_of, no_link}, ListEnd.{IsAfter, IsEndOf}, Numbered.{IsAlteredAt, Numbered, numbered, numbered_from}}
 use Rattle.jb_slice_file.proofs.Chains.{as_many, chained_more, last_more, link_length}
 
 -- a list whose member behind these has another number is none
@@ -57,61 +51,51 @@ module _ (all : List Checkpoint) (one : Found) where
   abbrev before : List CheckpointBytes
   before = map checkpoint_bytes all
 
-  abbrev link : List ℕ
-  link = link_of (last_link before) (length before + 1) (checkpoint_bytes one.checkpoint)
+  -- the link that it must have behind these
+  abbrev pub next_link : List ℕ
+  next_link = link_of (last_link before) (1 + length all) (checkpoint_bytes one.checkpoint)
 
   so_many : length (chained before) ≡ length all
   so_many = as_many before ∙ length-map all checkpoint_bytes
 
-  -- where these are a list, it has the next number
-  pub other_number : (list : List Linked) (rest from : List Found) (whole : List Numbered) → from ≡ one ∷ rest
-      → whole ≡ numbered_from 1 (chained before) ++ map numbered from → whole ≡ numbered_from 1 list → one.number ≡ pos (1 + length all)
-  other_number list rest from whole next so is =
-      let found = sym (ap (λ l. numbered_from 1 (chained before) ++ map numbered l) next) ∙ sym so ∙ is in
-      slice_state 1 (chained before) list (numbered one) (map numbered rest) found ∙ ap (λ n. pos (1 + n)) so_many
-
-  -- where it has that, it is behind those before it
-  pub placed : (rest from : List Found) (whole : List Numbered) → from ≡ one ∷ rest → one.number ≡ pos (1 + length all)
-      → whole ≡ numbered_from 1 (chained before) ++ map numbered from → whole ≡ numbered_from 1 (chained before ++ (numbered one).linked ∷ []) ++ map numbered rest
-  placed rest from whole next number so =
-      let linked = (numbered one).linked in
-      let here : numbered one ≡ record { number = pos (1 + length all); linked = linked } = ap (λ n. record { number = n; linked = linked }) number in
-      so ∙ ap (λ l. numbered_from 1 (chained before) ++ map numbered l) next
-      ∙ ap (λ n. numbered_from 1 (chained before) ++ n ∷ map numbered rest) here
-      ∙ sym (append_assoc (numbered_from 1 (chained before)) ((record { number = pos (1 + length all); linked = linked }) ∷ []) (map numbered rest))
-      ∙ ap (λ l. l ++ map numbered rest) (sym (numbered_push 1 (chained before) linked (1 + length all) (ap (λ n. 1 + n) (sym so_many))))
-
   same_number : 1 + length all ≡ length before + 1
   same_number = let many = length-map all checkpoint_bytes in omega (arith, many)
 
-  pub push_next : (pushed : List Checkpoint) (rest from : List Found) (whole : List Numbered) → from ≡ one ∷ rest → pushed ≡ all ++ one.checkpoint ∷ [] → one.number ≡ pos (1 + length all)
-      → one.link.items ≡ link_of (last_link before) (1 + length all) (checkpoint_bytes one.checkpoint)
-      → whole ≡ numbered_from 1 (chained before) ++ map numbered from → whole ≡ numbered_from 1 (chained (map checkpoint_bytes pushed)) ++ map numbered rest
-  push_next pushed rest from whole next is number link so =
-      let linked = (numbered one).linked in
-      let more = chained_more before linked (link ∙ ap (λ n. link_of (last_link before) n (checkpoint_bytes one.checkpoint)) same_number) in
-      let kept_are : before ++ checkpoint_bytes one.checkpoint ∷ [] ≡ map checkpoint_bytes pushed = sym (ap (map checkpoint_bytes) is ∙ map-append checkpoint_bytes all (one.checkpoint ∷ [])) in
-      placed rest from whole next number so
-      ∙ ap (λ l. numbered_from 1 l ++ map numbered rest) (sym more)
-      ∙ ap (λ l. numbered_from 1 (chained l) ++ map numbered rest) kept_are
+  push_bytes : (pushed : List Checkpoint) → pushed ≡ all ++ one.checkpoint ∷ [] → before ++ checkpoint_bytes one.checkpoint ∷ [] ≡ map checkpoint_bytes pushed
+  push_bytes pushed is = sym (ap (map checkpoint_bytes) is ∙ map-append checkpoint_bytes all (one.checkpoint ∷ []))
 
-  pub last_next : (pushed : List Checkpoint) → pushed ≡ all ++ one.checkpoint ∷ [] → link_of (last_link before) (1 + length all) (checkpoint_bytes one.checkpoint) ≡ last_link (map checkpoint_bytes pushed)
+  pub last_next : (pushed : List Checkpoint) → pushed ≡ all ++ one.checkpoint ∷ [] → next_link ≡ last_link (map checkpoint_bytes pushed)
   last_next pushed is =
-      let kept_are : before ++ checkpoint_bytes one.checkpoint ∷ [] ≡ map checkpoint_bytes pushed = sym (ap (map checkpoint_bytes) is ∙ map-append checkpoint_bytes all (one.checkpoint ∷ [])) in
-      ap (λ n. link_of (last_link before) n (checkpoint_bytes one.checkpoint)) same_number ∙ sym (last_more before (checkpoint_bytes one.checkpoint)) ∙ ap last_link kept_are
+      ap (λ n. link_of (last_link before) n (checkpoint_bytes one.checkpoint)) same_number ∙ sym (last_more before (checkpoint_bytes one.checkpoint)) ∙ ap last_link (push_bytes pushed is)
 
-  -- where it has another link, it was changed
-  pub altered : (rest from : List Found) (whole : List Numbered) → from ≡ one ∷ rest → one.number ≡ pos (1 + length all)
-      → one.link.items ≢ link_of (last_link before) (1 + length all) (checkpoint_bytes one.checkpoint)
-      → whole ≡ numbered_from 1 (chained before) ++ map numbered from → IsAlteredAt (1 + length all) whole
-  altered rest from whole next number other so = record {
-    front = before;
-    one = (numbered one).linked;
-    later = map numbered rest;
-    number_is = (let many = length-map all checkpoint_bytes in omega (arith, many));
-    other = other;
-    found_are = placed rest from whole next number so;
-  }
+  module _ (rest from : List Found) (whole : List Numbered) (next : from ≡ one ∷ rest) (so : whole ≡ numbered_from 1 (chained before) ++ map numbered from) where
+    -- where these are a list, it has the next number
+    pub other_number : (list : List Linked) → whole ≡ numbered_from 1 list → one.number ≡ pos (1 + length all)
+    other_number list is =
+        let found = sym (ap (λ l. numbered_from 1 (chained before) ++ map numbered l) next) ∙ sym so ∙ is in
+        slice_state 1 (chained before) list (numbered one) (map numbered rest) found ∙ ap (λ n. pos (1 + n)) so_many
+
+    module _ (number : one.number ≡ pos (1 + length all)) where
+      -- where it has that, it is behind those before it
+      placed : whole ≡ numbered_from 1 (chained before ++ (numbered one).linked ∷ []) ++ map numbered rest
+      placed =
+          let linked = (numbered one).linked in
+          let here : numbered one ≡ record { number = pos (1 + length all); linked = linked } = ap (λ n. record { number = n; linked = linked }) number in
+          so ∙ ap (λ l. numbered_from 1 (chained before) ++ map numbered l) next
+          ∙ ap (λ n. numbered_from 1 (chained before) ++ n ∷ map numbered rest) here
+          ∙ sym (append_assoc (numbered_from 1 (chained before)) ((record { number = pos (1 + length all); linked = linked }) ∷ []) (map numbered rest))
+          ∙ ap (λ l. l ++ map numbered rest) (sym (numbered_push 1 (chained before) linked (1 + length all) (ap (λ n. 1 + n) (sym so_many))))
+
+      pub push_next : (pushed : List Checkpoint) → pushed ≡ all ++ one.checkpoint ∷ [] → one.link.items ≡ next_link → whole ≡ numbered_from 1 (chained (map checkpoint_bytes pushed)) ++ map numbered rest
+      push_next pushed is link =
+          let more = chained_more before (numbered one).linked (link ∙ ap (λ n. link_of (last_link before) n (checkpoint_bytes one.checkpoint)) same_number) in
+          placed ∙ ap (λ l. numbered_from 1 l ++ map numbered rest) (sym more) ∙ ap (λ l. numbered_from 1 (chained l) ++ map numbered rest) (push_bytes pushed is)
+
+      -- where it has another link, it was changed
+      pub altered : one.link.items ≢ next_link → IsAlteredAt (1 + length all) whole
+      altered other =
+          let many = length-map all checkpoint_bytes in
+          record { front = before; one = (numbered one).linked; later = map numbered rest; number_is = omega (arith, many); other = other; found_are = placed }
 
 -- ---- the end of a list
 

@@ -1,16 +1,9 @@
 -- A connection that was just opened, and one that only read.
 use Rattle.std.proofs.Common.{◌≡◌, ◌⊎◌, inl, inr, List, [], length, arith, IsTrue, sym, ap, subst, ◌∙◌}
-use Rattle.sqlite.specs.Effect.{Database}
-use Rattle.sqlite.specs.State.{State, IsUnchanged}
-use Rattle.sqlite.specs.Tree.{Trees}
-use Rattle.sqlite.specs.Schema.{Schema}
+use Rattle.sqlite.{specs.Effect.Database, specs.State.{State, IsUnchanged}, specs.Tree.Trees, specs.Schema.Schema}
 use Rattle.sqlite_trees.specs.Objects.{catalog_tree}
-use Rattle.sqlite_catalog.specs.Listing.{IsSound}
-use Rattle.sqlite_catalog.proofs.ReadLemmas.{lists_once}
-use Rattle.jb_slice_file.specs.TableSchema.{checkpoint_schema, no_schema}
-use Rattle.jb_slice_file.specs.CheckpointBytes.{CheckpointBytes}
-use Rattle.jb_slice_file.specs.Rows.{AreIn, HoldsList, StandsFor, Has, ShowsList}
-use Rattle.jb_slice_file.specs.Connections.{IsJustOpened, Keeps}
+use Rattle.sqlite_catalog.{specs.Listing.IsSound, proofs.ReadLemmas.lists_once}
+use Rattle.jb_slice_file.specs.{TableSchema.{checkpoint_schema, no_schema}, CheckpointBytes.CheckpointBytes, Rows.{AreIn, HoldsList, StandsFor, Has, ShowsList}, Connections.{IsJustOpened, Keeps}}
 
 pub apart : checkpoint_schema ≡ no_schema → ⊥
 apart e = let tables = ap (λ (s : Schema). length s.tables) e in omega (arith, tables)

@@ -2,38 +2,15 @@
 use Rattle.std.proofs.Common.{◌≡◌, ◌⊎◌, ◌∙◌, ℕ, Bool, true, false, List, [], IsTrue, inl, inr, refl, sym, ap, subst, subst₂, true≢false}
 use Rattle.std.proofs.Math.Logic.{∥∥₁_map, ∥∥₁_elim}
 use Rattle.sqlite_catalog.specs.Listing.{IsSound, Lists}
-use Rattle.sqlite_disk.specs.declared.Disk.{Ghosts}
-use Rattle.sqlite_disk.specs.declared.Files.{Files}
-use Rattle.sqlite_pool.proofs.StateLemmas.{size_is_allowed}
-use Rattle.sqlite_pool.specs.File.{IsSoundFile}
-use Rattle.sqlite_pool.specs.Stored.{Adopts, StandsAs, is_summed, stored_size, trimmed}
-use Rattle.sqlite_store.proofs.AlikeLemmas.{same_file}
-use Rattle.sqlite_store.specs.FileStore.{reading, recovers, schema_in, state}
-use Rattle.sqlite_store.specs.Listed.{catalog_rows}
-use Rattle.sqlite_store.specs.Listing.{IsOurs, file_trees, listed_from}
-use Rattle.sqlite_store.specs.Unopened.{state_of}
-use Rattle.sqlite_store.specs.declared.catalog.Wanted.{Wanted}
-use Rattle.sqlite_store.specs.declared.store.FileStore.{FileStore}
-use Rattle.sqlite_trees.specs.Objects.{catalog_tree}
-use Rattle.sqlite_trees.specs.Tree.{Trees}
-use Rattle.sqlite_wal.proofs.LogLemmas.{SeenMayStay}
-use Rattle.sqlite_wal.specs.Recovery.{Image, Pages}
-use Rattle.sqlite.proofs.FileLemmas.{is_something}
-use Rattle.sqlite.proofs.ListingLemmas.{empty_is_sound}
-use Rattle.sqlite.specs.Files.{AreFoundIn, HoldsDatabase, IsNothing, LeavesFiles, NamesSize, SaysSums, image_of}
-use Rattle.sqlite.specs.Schema.{Schema}
-use Rattle.sqlite.specs.State.{State}
-use Rattle.sqlite.specs.declared.file.Leftover.{Leftover}
+use Rattle.sqlite_disk.{specs.declared.Disk.Ghosts, specs.declared.Files.Files}
+use Rattle.sqlite_pool.{proofs.StateLemmas.size_is_allowed, specs.File.IsSoundFile, specs.Stored.{Adopts, StandsAs, is_summed, stored_size, trimmed}}
+use Rattle.sqlite_store.{proofs.AlikeLemmas.same_file, specs.FileStore.{reading, recovers, schema_in, state}, specs.Listed.catalog_rows, specs.Listing.{IsOurs, file_trees, listed_from}, specs.Unopened.state_of, specs.declared.catalog.Wanted.Wanted, specs.declared.store.FileStore.FileStore}
+use Rattle.sqlite_trees.{specs.Objects.catalog_tree, specs.Tree.Trees}
+use Rattle.sqlite_wal.{proofs.LogLemmas.SeenMayStay, specs.Recovery.{Image, Pages}}
+use Rattle.sqlite.{proofs.FileLemmas.is_something, proofs.ListingLemmas.empty_is_sound, specs.Files.{AreFoundIn, HoldsDatabase, IsNothing, LeavesFiles, NamesSize, SaysSums, image_of}, specs.Schema.Schema, specs.State.State, specs.declared.file.Leftover.Leftover}
+use Rattle.jb_slice_file.specs.{Rows.{Has, ShowsList}, Connections.IsJustOpened, CheckpointBytes.CheckpointBytes, TableSchema.{checkpoint_schema, no_schema}, Files.{HoldsWhole, CanGoOn, IsResumable, HoldsPages, HoldsRun, HoldsRunOrNone, HasRunCheckpoints, Leaves, LeavesImage, MayGoOn, has_store}}
+use Rattle.jb_slice_file.proofs.{Opened.shows_found, Pages.{pages_once, something, stands_pages}, Tables.{IsChecked, one_list}, Whole.{database_pages, stands_whole, whole_is_database, whole_pages}}
 use Rattle.sqlite.specs.declared.file.Leftover.TheVariants as left
-use Rattle.jb_slice_file.specs.Rows.{Has, ShowsList}
-use Rattle.jb_slice_file.specs.Connections.{IsJustOpened}
-use Rattle.jb_slice_file.specs.CheckpointBytes.{CheckpointBytes}
-use Rattle.jb_slice_file.specs.TableSchema.{checkpoint_schema, no_schema}
-use Rattle.jb_slice_file.specs.Files.{HoldsWhole, CanGoOn, IsResumable, HoldsPages, HoldsRun, HoldsRunOrNone, HasRunCheckpoints, Leaves, LeavesImage, MayGoOn, has_store}
-use Rattle.jb_slice_file.proofs.Opened.{shows_found}
-use Rattle.jb_slice_file.proofs.Pages.{pages_once, something, stands_pages}
-use Rattle.jb_slice_file.proofs.Tables.{IsChecked, one_list}
-use Rattle.jb_slice_file.proofs.Whole.{database_pages, stands_whole, whole_is_database, whole_pages}
 
 -- the same file, of whose numbers nothing is said
 loose_file : (size : ℕ) (is_numbered : Bool) (wanted : List Wanted) (pages : Pages) → IsOurs size is_numbered wanted pages → IsOurs size false wanted pages

@@ -1,12 +1,8 @@
 -- What a life leaves, by how it ended.
 use Rattle.std.proofs.Common.{List, IsTrue}
-use Rattle.sqlite_disk.specs.declared.Disk.{Ghosts}
-use Rattle.sqlite_disk.specs.declared.Files.{Files}
+use Rattle.sqlite_disk.{specs.declared.Disk.Ghosts, specs.declared.Files.Files}
 use Rattle.sqlite_wal.specs.Reads.{AreClean}
-use Rattle.jb_slice_file.specs.CheckpointBytes.{CheckpointBytes}
-use Rattle.jb_slice_file.specs.declared.stop.ProcessRun.{ProcessRun}
-use Rattle.jb_slice_file.specs.Files.{HoldsRun, MayGoOn}
-use Rattle.jb_slice_file.specs.ProcessRuns.{IsProcessRunOver, Leads}
+use Rattle.jb_slice_file.specs.{CheckpointBytes.CheckpointBytes, declared.stop.ProcessRun.ProcessRun, Files.{HoldsRun, MayGoOn}, ProcessRuns.{IsProcessRunOver, Leads}}
 use Rattle.jb_slice_file.proofs.Opens.{may_go_on, run_goes_on}
 
 -- one that had the files open, and left a run

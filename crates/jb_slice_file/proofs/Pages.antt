@@ -1,24 +1,10 @@
 -- The pages to which files recover, whatever sums they have.
-use Rattle.std.proofs.Common.{suc, zero, ◌≡◌, ◌⊎◌, ◌≤◌, ◌<◌, ◌+◌, ◌*◌, ◌-◌, ◌%◌, ◌∷◌, inl, inr, ℕ, Bool, List, [], length, take, slice_index, get_or-take, Option, Some, None, option_map, unwrap_or, true, false, IsTrue, refl, sym, ap, ap₂, subst, ◌∙◌, arith, take_all, eqb, eqb-true, zero-add, le-ltb, cond}
-use Rattle.std.proofs.Math.Path.{fun_ext}
-use Rattle.std.proofs.lemmas.Bool.{cases_Bool, cases_eq, cases_lt}
-use Rattle.std.proofs.lemmas.List.{length-take}
-use Rattle.sqlite_wal.specs.Format.{part, be32}
-use Rattle.sqlite_wal.specs.PageSize.{size_in_file}
-use Rattle.sqlite_wal.specs.Recovery as log
-use Rattle.sqlite_wal.specs.Recovery.{AreWhole, Image, IsIgnored, Pages, pages_after}
-use Rattle.sqlite_wal.proofs.AppendLemmas.{page_from_pages, some_value}
-use Rattle.sqlite_wal.proofs.CreateLemmas.{begun_is_not_blank}
-use Rattle.sqlite_wal.proofs.FormatLemmas.{be32-part}
-use Rattle.sqlite_wal.proofs.PartLemmas.{part_within, slice_index-part}
-use Rattle.sqlite_wal.proofs.RecoveryLemmas.{recovers_once, replays_once}
-use Rattle.sqlite_pool.specs.File.{IsSoundFile, header_in}
-use Rattle.sqlite_pool.specs.Header.{first_page}
-use Rattle.sqlite_pool.specs.Stored.{StandsAs, is_among, is_summed, reserved, resealed, sealed, stored_size, trimmed, used_size}
-use Rattle.sqlite_pool.specs.StoredLaws.{trimmed_some}
-use Rattle.sqlite_pool.proofs.ProbeLemmas.{first_byte}
-use Rattle.sqlite_pool.proofs.ResealLemmas.{same_trimmed, still_whole}
+use Rattle.std.proofs.Common.{zero, ◌≡◌, ◌⊎◌, ◌≤◌, ◌<◌, ◌+◌, ◌*◌, ◌-◌, ◌%◌, inl, inr, ℕ, Bool, List, [], length, take, slice_index, get_or-take, Option, Some, None, option_map, unwrap_or, true, false, IsTrue, refl, sym, ap, ap₂, subst, ◌∙◌, arith, take_all, eqb, eqb-true, zero-add, le-ltb, cond}
+use Rattle.std.{proofs.Math.Path.fun_ext, proofs.lemmas.Bool.{cases_Bool, cases_eq, cases_lt}, proofs.lemmas.List.{get_or_past, length-take}}
+use Rattle.sqlite_wal.{specs.Format.{part, be32}, specs.PageSize.size_in_file, specs.Recovery.{AreWhole, Image, IsIgnored, Pages, pages_after}, proofs.AppendLemmas.{page_from_pages, some_value}, proofs.CreateLemmas.begun_is_not_blank, proofs.FormatLemmas.be32-part, proofs.PartLemmas.{part_within, slice_index-part}, proofs.RecoveryLemmas.{recovers_once, replays_once}}
+use Rattle.sqlite_pool.{specs.File.{IsSoundFile, header_in}, specs.Header.first_page, specs.Stored.{StandsAs, is_among, is_summed, reserved, resealed, sealed, stored_size, trimmed, used_size}, specs.StoredLaws.trimmed_some, proofs.ProbeLemmas.first_byte, proofs.ResealLemmas.{same_trimmed, still_whole}}
 use Rattle.sqlite.specs.Files.{IsNothing, NamesSize, SaysSums}
+use Rattle.sqlite_wal.specs.Recovery as log
 
 again_same : (size : ℕ) (among : Bool) (page : Option (List ℕ)) → ((bytes : List ℕ) → page ≡ Some bytes → bytes ≡ sealed (take size bytes))
     → (Rattle.std.proofs.Common.if◌then◌else◌ among (option_map (λ bytes. sealed (take size bytes)) page) page) ≡ page
@@ -42,11 +28,6 @@ plain_sealed size bytes plain len =
           rw (take_all size bytes (omega (arith, len, all)), len, all, other)
     ]
 
-past_end : (xs : List ℕ) (i : ℕ) → length xs ≤ i → slice_index xs i ≡ 0
-past_end [] i long = refl
-past_end (x ∷ xs) zero long = absurd (omega arith)
-past_end (x ∷ xs) (suc i) long = past_end xs i (omega arith)
-
 -- Files that recover to a sound file.
 module _ (size : ℕ) (image : Image) (stored : Pages) (found : log.Recovers (stored_size size) image stored) (whole : AreWhole (stored_size size) stored)
     (sound : IsSoundFile size (trimmed size stored)) where
@@ -68,7 +49,7 @@ module _ (size : ℕ) (image : Image) (stored : Pages) (found : log.Recovers (st
     | inr enough ↦ enough
     | inl short ↦
         let long : length (header_in (trimmed size stored)) ≤ 23 = (let l = ap length head in omega (arith, l, length-take 100 (take size page), length-take size page)) in
-        let none = past_end (header_in (trimmed size stored)) 23 long in
+        let none : slice_index (header_in (trimmed size stored)) 23 ≡ 0 = get_or_past (header_in (trimmed size stored)) 23 0 long in
         absurd (omega (arith, sound.header.1.fractions, none))
   ]
 

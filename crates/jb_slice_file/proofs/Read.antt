@@ -1,40 +1,15 @@
 -- What the query of all checkpoints answers.
 use Rattle.std.proofs.Common.{◌≡◌, inl, inr, ℕ, suc, List, [], ◌∷◌, ◌++◌, length, map, true, false, Bool, ◌&&◌, IsPermutation, refl, sym, ap, subst, ◌∙◌, true≢false}
-use Rattle.std.proofs.lemmas.Bool.{and_parts}
-use Rattle.std.proofs.lemmas.List.Concat.{flat_map_single}
-use Rattle.std.proofs.lemmas.List.Sorted.{IsPermutation-trans, IsPermutation-map, IsPermutation-sym}
-use Rattle.std.specs.List.{AllByRecursion}
-use Rattle.sqlite.specs.declared.types.Value.{Value}
-use Rattle.sqlite.specs.declared.types.Value.TheVariants.{Null}
-use Rattle.sqlite.specs.Order.{Row}
-use Rattle.sqlite.specs.Kind.TheVariants.{Text, Blob}
-use Rattle.sqlite.specs.Query.{IsAnswer, output, page, Output}
-use Rattle.sqlite.specs.Program.{overlay}
-use Rattle.sqlite.specs.Tree.{Trees}
+use Rattle.std.{proofs.lemmas.Bool.and_parts, proofs.lemmas.List.Concat.flat_map_single, proofs.lemmas.List.Sorted.{IsPermutation-trans, IsPermutation-map, IsPermutation-sym}, specs.List.AllByRecursion, proofs.lemmas.List.map-append}
+use Rattle.sqlite.{specs.declared.types.Value.Value, specs.declared.types.Value.TheVariants.Null, specs.Order.Row, specs.Kind.TheVariants.{Text, Blob}, specs.Query.{IsAnswer, output, page, Output}, specs.Program.overlay, specs.Tree.Trees, specs.Listing.understood, specs.Clock.timed, specs.State.{State, HasCleanDisk, IsUnchanged, Survives, Shown, ShowsRows, CommitsShowing}, proofs.Callers.{IsPlain, reads_as, never_commits}}
 use Rattle.sqlite_value.specs.Order.{column}
-use Rattle.sqlite_schema.specs.Rules.{passes, is_of}
-use Rattle.sqlite_schema.specs.declared.schema.Constraint.TheVariants.{Datatype, NotNull}
-use Rattle.sqlite_sql.specs.Ops.{is_null}
-use Rattle.sqlite_sql.specs.Query.{output_cmp}
-use Rattle.sqlite_sql.proofs.QueryLemmas.{output_cmp_total}
+use Rattle.sqlite_schema.{specs.Rules.{passes, is_of}, specs.declared.schema.Constraint.TheVariants.{Datatype, NotNull}}
+use Rattle.sqlite_sql.{specs.Ops.is_null, specs.Query.output_cmp, proofs.QueryLemmas.output_cmp_total}
 use Rattle.sqlite_trees.proofs.ListLemmas.{all-permutation}
-use Rattle.sqlite_keyed.proofs.SortLemmas.{sorted_unique}
-use Rattle.sqlite_keyed.proofs.ListLemmas.{map-map}
+use Rattle.sqlite_keyed.{proofs.SortLemmas.sorted_unique, proofs.ListLemmas.map-map}
 use Rattle.sqlite_catalog.specs.Listing.{IsSound}
-use Rattle.sqlite.specs.Listing.{understood}
-use Rattle.sqlite.specs.Clock.{timed}
-use Rattle.sqlite.specs.State.{State, HasCleanDisk, IsUnchanged, Survives, Shown, ShowsRows, CommitsShowing}
-use Rattle.sqlite.proofs.Callers.{IsPlain, reads_as, never_commits}
-use Rattle.jb_slice_file.specs.TableSchema.{checkpoint, checkpoint_schema}
-use Rattle.std.proofs.lemmas.List.{map-append}
-use Rattle.jb_slice_file.specs.CheckpointBytes.{CheckpointBytes}
-use Rattle.jb_slice_file.specs.Chain.{Linked, chained}
-use Rattle.jb_slice_file.specs.Numbered.{IsAlteredAt, Numbered, numbered_from}
-use Rattle.jb_slice_file.specs.Rows.{AreIn, IsAltered, columns_of, stored, stored_from, shown_from}
-use Rattle.jb_slice_file.proofs.Columns.{rows_of_list, rows_once}
-use Rattle.jb_slice_file.proofs.Numbers.{never_altered}
-use Rattle.jb_slice_file.proofs.Texts.{select_text, query, select_is}
-use Rattle.jb_slice_file.proofs.Lists.{out, shown_of, rises}
+use Rattle.jb_slice_file.specs.{TableSchema.{checkpoint, checkpoint_schema}, CheckpointBytes.CheckpointBytes, Chain.{Linked, chained}, Numbered.{IsAlteredAt, Numbered, numbered_from}, Rows.{AreIn, IsAltered, columns_of, stored, stored_from, shown_from}}
+use Rattle.jb_slice_file.proofs.{Columns.{rows_of_list, rows_once}, Numbers.never_altered, Texts.{select_text, query, select_is}, Lists.{out, shown_of, rises}}
 
 -- what the query shows of a row, and the row that it was
 abbrev pub shows : Row → Row

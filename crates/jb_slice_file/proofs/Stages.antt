@@ -1,12 +1,8 @@
 -- From one life to the next.
 use Rattle.std.proofs.Common.{◌≡◌, ◌&&◌, ◌||◌, Bool, true, false, not, List, IsTrue, refl, sym, true≢false}
-use Rattle.sqlite_disk.specs.declared.Disk.{Ghosts}
-use Rattle.sqlite_disk.specs.declared.Files.{Files}
+use Rattle.sqlite_disk.{specs.declared.Disk.Ghosts, specs.declared.Files.Files}
 use Rattle.sqlite_wal.specs.Reads.{AreClean}
-use Rattle.jb_slice_file.specs.CheckpointBytes.{CheckpointBytes}
-use Rattle.jb_slice_file.specs.Files.{CanGoOn, HoldsRun, HoldsRunOrNone, Leaves, MayGoOn}
-use Rattle.jb_slice_file.specs.declared.stop.ProcessRun.{ProcessRun}
-use Rattle.jb_slice_file.specs.ProcessRuns.{IsProcessRunOver}
+use Rattle.jb_slice_file.specs.{CheckpointBytes.CheckpointBytes, Files.{CanGoOn, HoldsRun, HoldsRunOrNone, Leaves, MayGoOn}, declared.stop.ProcessRun.ProcessRun, ProcessRuns.IsProcessRunOver}
 use Rattle.jb_slice_file.proofs.Opens.{may_go_on, none_goes_on, run_goes_on}
 
 -- WHAT LIVES LEAVE: files from which a run may go on and, unless an open was cut of which the kit doesn't say it, whose tables have their numbers

@@ -1,34 +1,14 @@
 -- One file that is read under two lists of tables: where each has the table of checkpoints alone, or none, they are one list.
 use Rattle.std.proofs.Common.{◌≡◌, ◌⊎◌, ◌+◌, ◌++◌, ◌∷◌, ◌∙◌, ◌&&◌, ℕ, zero, suc, Bool, true, false, not, List, [], slice_index, Option, None, if◌then◌else◌, pos, codes, inl, inr, refl, sym, ap, ap₂, subst, subst₂, true≢false, eqb, arith}
-use Rattle.std.specs.List.{list_all, list_any}
-use Rattle.std.specs.Ordering.{is_eq}
-use Rattle.std.proofs.lemmas.Bool.{and_parts, cases_Bool}
-use Rattle.std.proofs.lemmas.Map.Text.{is_eq-slice_cmp}
-use Rattle.std.proofs.lemmas.Slice.Eq.{bytes_eq-Decides}
+use Rattle.std.{specs.List.list_any, specs.Ordering.is_eq, proofs.lemmas.Bool.{and_parts, cases_Bool}, proofs.lemmas.Map.Text.is_eq-slice_cmp, proofs.lemmas.Slice.Eq.bytes_eq-Decides}
 use Rattle.sqlite_btree.proofs.StoredLemmas.{stored_root_live}
-use Rattle.sqlite_catalog.proofs.LayoutLemmas.{row_kind, zipped_right}
-use Rattle.sqlite_catalog.specs.Listing.{IsIndexRow, IsTableRow, IsViewRow, Lists, is_index_row, is_table_row, is_view_row}
+use Rattle.sqlite_catalog.{proofs.LayoutLemmas.{row_kind, zipped_right}, specs.Listing.{IsIndexRow, IsTableRow, IsViewRow, Lists, is_index_row, is_table_row, is_view_row}}
 use Rattle.sqlite_pages.specs.PageMap.{PageMap}
-use Rattle.sqlite_pool.proofs.PoolLemmas.{none_of}
-use Rattle.sqlite_pool.specs.File.{IsSoundFile, in_use, unlocked}
-use Rattle.sqlite_pool.specs.FreeList.{live}
-use Rattle.sqlite_rules.proofs.ListLemmas.{has_kept}
-use Rattle.sqlite_rules.specs.Lists.{Has}
-use Rattle.sqlite_store.proofs.ExactLemmas.{absent_describes, roots_fit}
-use Rattle.sqlite_store.specs.Build.{listing}
-use Rattle.sqlite_store.specs.Catalog.{describes, fits_shape, has_no_pages, is_about, is_near, is_present, is_well_formed, may_stand, page_number, roots_in, same_value, shape_at}
-use Rattle.sqlite_store.specs.Db.{IsFile, IsKept, roots_of, rows_at}
-use Rattle.sqlite_store.specs.Exact.{AreRootsFor, entries_of}
-use Rattle.sqlite_store.specs.Listing.{IsOurs, listed, listed_from}
-use Rattle.sqlite_store.specs.declared.catalog.Wanted.{Wanted}
-use Rattle.sqlite_trees.specs.Objects.{listing as object_listing}
-use Rattle.sqlite_trees.specs.Listing.{same_code}
-use Rattle.sqlite_trees.specs.Sound.{is_virtual, is_word}
-use Rattle.sqlite_trees.specs.declared.store.Shape.{Shape}
-use Rattle.sqlite_trees.specs.declared.store.Shape.TheVariants.{Absent, Table}
-use Rattle.sqlite_value.proofs.OrderLemmas.{value_cmp-Text}
-use Rattle.sqlite_value.specs.Order.{Row, column}
-use Rattle.sqlite_value.specs.declared.value.Value.TheVariants.{Int, Text}
+use Rattle.sqlite_pool.{proofs.PoolLemmas.none_of, specs.File.{IsSoundFile, in_use, unlocked}, specs.FreeList.live}
+use Rattle.sqlite_rules.{proofs.ListLemmas.{has_kept, has_right, test_has}, specs.Lists.Has}
+use Rattle.sqlite_store.{proofs.ExactLemmas.{absent_describes, roots_fit}, specs.Build.listing, specs.Catalog.{describes, fits_shape, has_no_pages, is_about, is_near, is_present, is_well_formed, may_stand, page_number, roots_in, same_value, shape_at}, specs.Db.{IsFile, IsKept, roots_of, rows_at}, specs.Exact.{AreRootsFor, entries_of}, specs.Listing.{IsOurs, listed, listed_from}, specs.declared.catalog.Wanted.Wanted}
+use Rattle.sqlite_trees.{specs.Objects.listing as object_listing, specs.Listing.same_code, specs.Sound.{is_virtual, is_word}, specs.declared.store.Shape.Shape, specs.declared.store.Shape.TheVariants.{Absent, Table}}
+use Rattle.sqlite_value.{proofs.OrderLemmas.value_cmp-Text, specs.Order.{Row, column}, specs.declared.value.Value.TheVariants.{Int, Text}}
 use Rattle.jb_slice_file.specs.TableSchema.{checkpoint, checkpoint_schema, no_schema}
 
 same_text : (a b : List ℕ) → same_value (Text a) (Text b) ≡ true → a ≡ b
@@ -60,11 +40,7 @@ no_row (row ∷ more) lists = absurd (elim (row_kind row) [
   | inr (inr view) ↦ (zipped_right IsViewRow _ no_schema.views row lists.listed.views (has_kept is_view_row (row ∷ more) row (inl refl) view)).1
 ])
 
--- What an entry that is described tells of the objects.
-behind : (shape : Shape) (from : ℕ) (w : Wanted) (rows : List Row) (row : Row) → Has rows row → Has (listed from w shape ++ rows) row
-behind Absent from w rows row has = has
-behind _ from w rows row has = inr has
-
+-- What an entry that is described says of the objects.
 in_front : (shape : Shape) (from : ℕ) (w : Wanted) (rows : List Row) → (shape ≡ Absent → ⊥) → Has (listed from w shape ++ rows) (object_listing from w.row shape w.reals)
 in_front Absent from w rows present = absurd (present refl)
 in_front _ from w rows present = inl refl
@@ -81,7 +57,7 @@ described_listed from entry [] any = absurd (true≢false (sym any))
 described_listed from entry (w ∷ schema) any = elim (cases_Bool (describes w entry)) [
   | inl here ↦ (from, w, here, in_front w.shape from w (listed_from (from + 1) schema) (λ absent. true≢false (sym here ∙ absent_describes w entry (rw absent))))
   | inr not_here ↦ let later = described_listed (from + 1) entry schema (rw not_here at any) in
-      (later.0, later.1, later.2, behind w.shape from w (listed_from (from + 1) schema) _ later.3)
+      (later.0, later.1, later.2, has_right (listed from w w.shape) (listed_from (from + 1) schema) _ later.3)
 ]
 
 abbrev HasEntry : ℕ → List Wanted → List ℕ → Row → Type 0
@@ -122,11 +98,6 @@ placed : (from : ℕ) (schema : List Wanted) (row : Row) → Has (listed_from fr
 placed from [] row has = absurd has
 placed from (w ∷ schema) row has = first_or_later w.shape from w (listed_from (from + 1) schema) row has
     (λ present same. (from, 0, w, same, refl)) (λ more. let r = placed (from + 1) schema row more in (r.0, suc r.1, r.2, r.3, r.4))
-
-all_stand : {X : Type 0} (test : X → Bool) (xs : List X) (x : X) → list_all test xs ≡ true → Has xs x → test x ≡ true
-all_stand test [] x all has = absurd has
-all_stand test (y ∷ xs) x all (inl same) = rw same (and_parts (test y) _ all).0
-all_stand test (y ∷ xs) x all (inr more) = all_stand test xs x (and_parts (test y) _ all).1 more
 
 -- what describes an entry has its text
 text_of : (w : Wanted) (entry : Row) → describes w entry ≡ true → same_value (column entry 5) (column w.row 3) ≡ true
@@ -212,9 +183,9 @@ module _ (size : ℕ) (pages : PageMap) (wanted other : List Wanted) (file : IsF
       let entry : Row = Int (pos e.2) ∷ listing w e.1 in
       let at : Has entries entry = subst (λ rows. Has rows entry) (sym their_entries) e.6 in
       let known = (and_parts _ _ (and_parts _ _ (and_parts _ _ file.db.known).0).0) in
-      let stands = all_stand (may_stand wanted) entries entry known.0 at in
+      let stands = test_has (may_stand wanted) entries entry known.0 at in
       let theirs = and_parts _ _ (and_parts _ _ exact.file.db.known).0 in
-      let fits = all_stand fits_shape other w theirs.1 e.4 in
+      let fits = test_has fits_shape other w theirs.1 e.4 in
       let table : w.shape ≡ Table = has_table e.0 w (subst (λ r. IsTableRow r checkpoint) e.5 is) in
       let solid = (and_parts _ _ (rw table at fits)).1 in
       elim (cases_Bool (list_any (λ x. describes x entry) wanted)) [

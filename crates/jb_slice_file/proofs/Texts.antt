@@ -1,15 +1,7 @@
 -- What the three texts mean, computed.
 use Rattle.std.proofs.Common.{◌≡◌, ℕ, pos, negsuc, List, [], ◌∷◌, codes, false, None, Ok, refl}
-use Rattle.sqlite.specs.declared.types.Value.TheVariants.{Null, Int}
-use Rattle.sqlite.specs.Term.{Term, lit, col}
-use Rattle.sqlite.specs.Query.{Query, inner, end}
-use Rattle.sqlite.specs.Source.TheVariants.{Values}
-use Rattle.sqlite.specs.Collation.TheVariants.{Binary}
-use Rattle.sqlite.specs.Command.TheVariants.{Insert, Select, CreateTable}
-use Rattle.sqlite.specs.Compile.{table_defined_by}
+use Rattle.sqlite.{specs.declared.types.Value.TheVariants.{Null, Int}, specs.Term.{Term, lit, col}, specs.Query.{Query, inner, end}, specs.Source.TheVariants.Values, specs.Collation.TheVariants.Binary, specs.Command.TheVariants.{Insert, Select, CreateTable}, specs.Compile.table_defined_by, specs.Listing.{understood, reads_listing}, proofs.Callers.{IsPlain, command_of, statement_of}}
 use Rattle.sqlite_tied.specs.Compute.{everything}
-use Rattle.sqlite.specs.Listing.{understood, reads_listing}
-use Rattle.sqlite.proofs.Callers.{IsPlain, command_of, statement_of}
 use Rattle.jb_slice_file.specs.TableSchema.{checkpoint, checkpoint_schema, no_schema}
 
 abbrev pub create_text : List ℕ

@@ -2,20 +2,14 @@
 use Rattle.std.proofs.Common.{◌∙◌, ℕ, true, IsTrue, inl, inr, refl, sym, ap, subst}
 use Rattle.std.proofs.Math.Logic.{∥∥₁_map, ∥∥₁_elim}
 use Rattle.sqlite_disk.specs.declared.Disk.{Ghosts}
-use Rattle.sqlite_wal.specs.Recovery as log
 use Rattle.sqlite_wal.specs.Recovery.{Image, Pages}
-use Rattle.sqlite_pool.proofs.ResealLemmas.{adopts_of}
-use Rattle.sqlite_pool.proofs.StateLemmas.{size_is_allowed}
-use Rattle.sqlite_pool.specs.Stored.{StandsAs, is_summed, stored_size}
-use Rattle.sqlite_pool.specs.File.{IsSoundFile}
+use Rattle.sqlite_pool.{proofs.ResealLemmas.adopts_of, proofs.StateLemmas.size_is_allowed, specs.Stored.{StandsAs, is_summed, stored_size}, specs.File.IsSoundFile}
 use Rattle.sqlite_trees.specs.Tree.{Trees}
-use Rattle.sqlite_store.specs.declared.store.FileStore.{FileStore}
-use Rattle.sqlite_store.specs.FileStore.{reading, recovers, schema_in, state, view}
-use Rattle.sqlite_store.specs.Listing.{IsOurs, file_trees}
-use Rattle.sqlite.specs.Files.{HoldsDatabase, NamesSize, SaysSums}
-use Rattle.sqlite.specs.Held.{AreDatabases}
+use Rattle.sqlite_store.{specs.declared.store.FileStore.FileStore, specs.FileStore.{reading, recovers, schema_in, state, view}, specs.Listing.{IsOurs, file_trees}}
+use Rattle.sqlite.{specs.Files.{HoldsDatabase, NamesSize, SaysSums}, specs.Held.AreDatabases}
 use Rattle.jb_slice_file.specs.Files.{HoldsPages, HoldsWhole}
 use Rattle.jb_slice_file.proofs.Pages.{recovers_after, unchanged}
+use Rattle.sqlite_wal.specs.Recovery as log
 
 pub whole_is_database : (image : Image) (db : Trees) → HoldsWhole image db → HoldsDatabase image db
 whole_is_database image db held =

@@ -1,41 +1,13 @@
 -- What the table's making and a checkpoint's insertion do to the list.
-use Rattle.std.proofs.Common.{IsTrue, OnErr, append-nil, subst₂, if◌then◌else◌, ◌≡◌, ◌⊎◌, inl, inr, ℕ, ◌+◌, pos, List, [], ◌∷◌, ◌++◌, length, Bool, true, false, cond, None, Ok, Err, Result, OnOk, IsPermutation, refl, sym, ap, subst, ◌∙◌, arith}
-use Rattle.std.proofs.lemmas.Bool.{and_parts, cases_Bool, not-true}
-use Rattle.std.proofs.lemmas.List.Sorted.{IsPermutation-refl, IsPermutation-cons, IsPermutation-trans, IsPermutation-to_front}
-use Rattle.sqlite.specs.declared.types.Value.{Value}
-use Rattle.sqlite.specs.declared.types.Value.TheVariants.{Null, Int, Text as Words, Blob as Bytes}
-use Rattle.sqlite.specs.Order.{Row}
-use Rattle.sqlite.specs.Ops.{unary}
-use Rattle.sqlite.specs.Kind.TheVariants.{Integer}
-use Rattle.sqlite.specs.Source.TheVariants.{Values}
-use Rattle.sqlite.specs.Command.{Command}
-use Rattle.sqlite.specs.Command.TheVariants.{Commit, CreateTable, Insert, Release}
-use Rattle.sqlite.specs.Schema.{Schema}
-use Rattle.sqlite.specs.Edit.{edit_of, edited}
-use Rattle.sqlite.specs.Cast.{cast}
-use Rattle.sqlite.specs.Rowids.TheVariants.{Chosen}
-use Rattle.sqlite.specs.Change.{created, next_tree}
-use Rattle.sqlite.specs.Does.{Tally, Does, lacks_sequence}
-use Rattle.sqlite.specs.Rows.{Written}
-use Rattle.sqlite.specs.Tree.{Trees}
+use Rattle.std.proofs.Common.{IsTrue, append-nil, subst₂, if◌then◌else◌, ◌≡◌, ◌⊎◌, inl, inr, ℕ, ◌+◌, pos, List, [], ◌∷◌, ◌++◌, length, Bool, true, false, cond, None, Ok, Err, Result, IsPermutation, refl, sym, ap, subst, ◌∙◌, arith}
+use Rattle.std.{proofs.lemmas.Bool.{and_parts, cases_Bool, not-true}, proofs.lemmas.List.Sorted.{IsPermutation-refl, IsPermutation-cons, IsPermutation-trans, IsPermutation-to_front}}
+use Rattle.sqlite.{specs.declared.types.Value.Value, specs.declared.types.Value.TheVariants.{Null, Int, Text as Words, Blob as Bytes}, specs.Order.Row, specs.Ops.unary, specs.Kind.TheVariants.Integer, specs.Source.TheVariants.Values, specs.Command.Command, specs.Command.TheVariants.{Commit, CreateTable, Insert, Release}, specs.Schema.Schema, specs.Edit.{edit_of, edited}, specs.Cast.cast, specs.Rowids.TheVariants.Chosen, specs.Change.{created, next_tree}, specs.Does.{Tally, Does, lacks_sequence}, specs.Rows.Written, specs.Tree.Trees, specs.declared.error.Error.Error, specs.Listing.understood, specs.Clock.timed, specs.Effect.Database, specs.State.{State, HasCleanDisk, mode_of, Writes, Executes, ExecutesIn, IsNotRun, IsUnchanged, IsRolledBack, Survives, CommitsBy, MayCommit, RunsCommand, shows_rows}, proofs.Callers.{IsPlain, command_of, statement_of, runs_as, one_step}}
 use Rattle.sqlite_rules.specs.Edit.{is_taken, are_fresh}
 use Rattle.sqlite_trees.specs.Tree.{put_row}
 use Rattle.sqlite_catalog.specs.Listing.{IsSound}
-use Rattle.sqlite.specs.declared.error.Error.{Error}
-use Rattle.sqlite.specs.Listing.{understood}
-use Rattle.sqlite.specs.Clock.{timed}
-use Rattle.sqlite.specs.Effect.{Database}
-use Rattle.sqlite.specs.State.{State, HasCleanDisk, mode_of, Writes, Executes, ExecutesIn, IsNotRun, IsUnchanged, IsRolledBack, Survives, CommitsBy, MayCommit, RunsCommand, shows_rows}
 use Rattle.sqlite_resolve.specs.declared.compiled.Compiled.{Compiled}
-use Rattle.sqlite.proofs.Callers.{IsPlain, command_of, statement_of, runs_as, one_step}
-use Rattle.jb_slice_file.specs.TableSchema.{checkpoint, checkpoint_schema, no_schema}
-use Rattle.jb_slice_file.specs.CheckpointBytes.{CheckpointBytes}
-use Rattle.jb_slice_file.specs.Chain.{Linked, chained, last_link, link_of}
-use Rattle.jb_slice_file.proofs.Chains.{as_many, chained_more}
-use Rattle.jb_slice_file.specs.Rows.{HoldsList, StandsFor, stored, stored_from}
-use Rattle.jb_slice_file.specs.Connections.{Keeps}
-use Rattle.jb_slice_file.proofs.Texts.{create_text, insert_text, terms, create_is, insert_is}
-use Rattle.jb_slice_file.proofs.Lists.{put_adds, stored_push}
+use Rattle.jb_slice_file.specs.{TableSchema.{checkpoint, checkpoint_schema, no_schema}, CheckpointBytes.CheckpointBytes, Chain.{Linked, chained, last_link, link_of}, Rows.{HoldsList, StandsFor, stored, stored_from}, Connections.Keeps}
+use Rattle.jb_slice_file.proofs.{Chains.{as_many, chained_more}, Texts.{create_text, insert_text, terms, create_is, insert_is}, Lists.{put_adds, stored_push}}
 
 either : (b : Bool) (x : Value) → cond b x x ≡ x
 either true x = refl
@@ -183,24 +155,17 @@ module _ (old new : State) (settled : (db : Trees) → IsTrue new.is_open → ne
         | inr runs ↦ run r.0 (timed (params number it) r.0.formats r.1.now) (rw runs at r.2)
       ]
 
-  pub failed : (it : Linked) (number : ℕ) (r : Result ℕ Error) → Keeps old all → (IsTrue old.is_open → old.may_leave old.committed.trees) → Executes insert_text (params number it) old new r
-      → OnErr r (IsTrue new.is_open → Keeps new all)
-  failed it number (Ok count) keeps stays h = tt
-  failed it number (Err e) keeps stays h = fails it number e keeps stays h
-
 module _ (old new : State) (settled : (db : Trees) → IsTrue new.is_open → new.may_leave db → db ≡ new.committed.trees) where
-  pub appended : (all : List CheckpointBytes) (it : Linked) (number : ℕ) (r : Result ℕ Error) → number ≡ length all + 1 → IsNext all it → Keeps old all → Executes insert_text (params number it) old new r
-      → OnOk r (Keeps new (all ++ it.it ∷ []))
-  appended all it number (Ok count) at next keeps h =
+  pub appended : (all : List CheckpointBytes) (it : Linked) (number count : ℕ) → number ≡ length all + 1 → IsNext all it → Keeps old all → Executes insert_text (params number it) old new (Ok count)
+      → Keeps new (all ++ it.it ∷ [])
+  appended all it number count at next keeps h =
       let w = runs_as insert_text (params number it) old new checkpoint_schema keeps.shows.schema command insert_is.0 insert_is.1 count h in
       wrote old new settled (all ++ it.it ∷ []) keeps.autocommit w (inserts old all it number at next keeps.shows w.tally new.now w.changed)
-  appended all it number (Err e) at next keeps h = tt
 
-  pub made : (r : Result ℕ Error) → old.now.schema ≡ no_schema → old.in_transaction ≡ false → Executes create_text [] old new r → OnOk r (Keeps new [])
-  made (Ok count) has autocommit h =
+  pub made : (count : ℕ) → old.now.schema ≡ no_schema → old.in_transaction ≡ false → Executes create_text [] old new (Ok count) → Keeps new []
+  made count has autocommit h =
       let w = subst (λ t. Writes old new None CreateTable t [] count) create_is.1 (runs_as create_text [] old new no_schema has CreateTable create_is.0 create_is.3 count h) in
       wrote old new settled [] autocommit w (makes old has w.tally new.now w.changed)
-  made (Err e) has autocommit h = tt
 
 -- What a crash during the calls leaves: what it left before, or the new list.
 pub made_survives : (old new : State) → old.now.schema ≡ no_schema → HasCleanDisk new → Survives old new (CommitsBy create_text [] old) → (db : Trees) → new.may_leave db → old.may_leave db ⊎ StandsFor db []

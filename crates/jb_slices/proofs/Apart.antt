@@ -1,37 +1,25 @@
 -- One slice's list, and items of slices that haven't begun.
-use Rattle.std.proofs.Common.{◌≡◌, ℕ, suc, ◌-◌, ◌<◌, ◌≤◌, ◌+◌, List, [], length, take, drop, Bool, true, false, refl, ap, sym, ◌∙◌, arith, subst, ◌⊎◌, inl, inr}
-use Rattle.std.specs.Prelude.{if◌then◌else◌, nat_eq}
-use Rattle.std.proofs.lemmas.Bool.{eqb-true}
-use Rattle.std.proofs.lemmas.List.{length-take}
-use Rattle.jb_slices.specs.Checkpoint.{Checkpoint}
-use Rattle.jb_slices.specs.Folder.{Folder, IsJobSoFar}
-use Rattle.jb_slices.specs.Job.{HasSlice, Job, first_of, slice_at}
-use Rattle.jb_slices.specs.JobLaws.{LaterItemsDontMatter, SlicesAreApart}
-use Rattle.jb_slices.specs.Slice.{Functions, IsSliceSoFar}
-use Rattle.jb_slices.proofs.Lists.{drop-front, take-less}
-use Rattle.jb_slices.proofs.Passing.{order}
-use Rattle.jb_slices.proofs.Seams.{next-first, times-less}
+use Rattle.std.proofs.Common.{◌≡◌, ℕ, suc, ◌-◌, ◌<◌, ◌≤◌, ◌+◌, List, [], length, take, drop, Bool, true, false, refl, ap, sym, ◌∙◌, arith, subst, inl, inr}
+use Rattle.std.{specs.Prelude.{if◌then◌else◌, nat_eq}, proofs.lemmas.Bool.{cases_lt, eqb-true}, proofs.lemmas.List.length-take}
+use Rattle.jb_slices.specs.{Checkpoint.Checkpoint, Folder.{Folder, IsJobSoFar}, Job.{HasSlice, Job, first_of, slice_at}, JobLaws.{LaterItemsDontMatter, SlicesAreApart}, Slice.{Functions, IsSliceSoFar}}
+use Rattle.jb_slices.proofs.{Lists.{drop-front, take-less}, Seams.{next-first, times-less}}
 
 -- ---- one slice's list
 
-each-replaced : (job : Job) (functions : Functions) (items : List (List ℕ)) (folder : Folder) (number : ℕ) (all : List Checkpoint) (k : ℕ)
-    → IsJobSoFar job functions items folder → IsSliceSoFar job functions number (slice_at job items number) all
-    → (same : Bool) → nat_eq k number ≡ same → IsSliceSoFar job functions k (slice_at job items k) (if same then all else folder k)
-each-replaced job functions items folder number all k so-far slice true e =
-    subst (λ (n : ℕ). IsSliceSoFar job functions n (slice_at job items n) all) (sym (eqb-true k number e)) slice
-each-replaced job functions items folder number all k so-far slice false e = so-far.each k
+module _ (job : Job) (functions : Functions) (items : List (List ℕ)) (folder : Folder) (so-far : IsJobSoFar job functions items folder) (number : ℕ) (all : List Checkpoint) (k : ℕ) where
+  each-replaced : IsSliceSoFar job functions number (slice_at job items number) all → (same : Bool) → nat_eq k number ≡ same
+      → IsSliceSoFar job functions k (slice_at job items k) (if same then all else folder k)
+  each-replaced slice true e = subst (λ (n : ℕ). IsSliceSoFar job functions n (slice_at job items n) all) (sym (eqb-true k number e)) slice
+  each-replaced slice false e = so-far.each k
 
-none-replaced : (job : Job) (functions : Functions) (items : List (List ℕ)) (folder : Folder) (number : ℕ) (all : List Checkpoint) (k : ℕ)
-    → IsJobSoFar job functions items folder → HasSlice job items number → (HasSlice job items k → ⊥)
-    → (same : Bool) → nat_eq k number ≡ same → (if same then all else folder k) ≡ []
-none-replaced job functions items folder number all k so-far has hasnt true e =
-    absurd (hasnt (subst (λ (n : ℕ). HasSlice job items n) (sym (eqb-true k number e)) has))
-none-replaced job functions items folder number all k so-far has hasnt false e = so-far.none k hasnt
+  none-replaced : HasSlice job items number → (HasSlice job items k → ⊥) → (same : Bool) → nat_eq k number ≡ same → (if same then all else folder k) ≡ []
+  none-replaced has hasnt true e = absurd (hasnt (subst (λ (n : ℕ). HasSlice job items n) (sym (eqb-true k number e)) has))
+  none-replaced has hasnt false e = so-far.none k hasnt
 
 pub apart : SlicesAreApart
 apart job functions items folder number all so-far has slice = record {
-  each = λ k. each-replaced job functions items folder number all k so-far slice (nat_eq k number) refl;
-  none = λ k hasnt. none-replaced job functions items folder number all k so-far has hasnt (nat_eq k number) refl;
+  each = λ k. each-replaced job functions items folder so-far number all k slice (nat_eq k number) refl;
+  none = λ k hasnt. none-replaced job functions items folder so-far number all k has hasnt (nat_eq k number) refl;
 }
 
 -- ---- later items
@@ -48,11 +36,6 @@ slice-within job items count k low =
     let few : n ≤ r = omega (arith, less, more) in
     ap (take n) (drop-front m r (first_of job count) items e) ∙ take-less n r (drop m items) few
 
-same-slice : (job : Job) (items others : List (List ℕ)) (count k : ℕ) → take (first_of job count) items ≡ take (first_of job count) others → k < count
-    → slice_at job items k ≡ slice_at job others k
-same-slice job items others count k same low =
-    sym (slice-within job items count k low) ∙ ap (λ (xs : List (List ℕ)). slice_at job xs k) same ∙ slice-within job others count k low
-
 has-too : (job : Job) (items others : List (List ℕ)) (count k : ℕ) → take (first_of job count) items ≡ take (first_of job count) others → k < count
     → HasSlice job items k → HasSlice job others k
 has-too job items others count k same low has =
@@ -62,21 +45,13 @@ has-too job items others count k same low has =
     let e = ap (λ (xs : List (List ℕ)). length xs) same in
     omega (arith, has, less, here, there, e)
 
--- which of them is less
-below-or-not : (k count : ℕ) → (k < count) ⊎ (count ≤ k)
-below-or-not k count = elim (order k count) [
-  | inl less ↦ inl less
-  | inr more ↦ elim more [ inl same ↦ inr (omega (arith, same)) | inr less ↦ inr (omega (arith, less)) ]
-]
-
 pub agreed : LaterItemsDontMatter
 agreed job functions items others folder count so-far none same = record {
-  each = λ k. elim (below-or-not k count) [
-    | inl low ↦ subst (λ (xs : List (List ℕ)). IsSliceSoFar job functions k xs (folder k)) (same-slice job items others count k same low) (so-far.each k)
+  each = λ k. elim (cases_lt k count) [
+    | inl low ↦
+        let one = sym (slice-within job items count k low) ∙ ap (λ (xs : List (List ℕ)). slice_at job xs k) same ∙ slice-within job others count k low in
+        subst (λ (xs : List (List ℕ)). IsSliceSoFar job functions k xs (folder k)) one (so-far.each k)
     | inr high ↦ subst (λ (all : List Checkpoint). IsSliceSoFar job functions k (slice_at job others k) all) (sym (none k high)) tt
   ];
-  none = λ k hasnt. elim (below-or-not k count) [
-    | inl low ↦ so-far.none k (λ has. hasnt (has-too job items others count k same low has))
-    | inr high ↦ none k high
-  ];
+  none = λ k hasnt. elim (cases_lt k count) [ inl low ↦ so-far.none k (λ has. hasnt (has-too job items others count k same low has)) | inr high ↦ none k high ];
 }

@@ -3,10 +3,7 @@ use Rattle.std.proofs.Common.{◌≡◌, ℕ, zero, suc, ◌<◌, [], ◌∷◌,
 use Rattle.jb_mapper.specs.EvenCover.{even_ranges}
 use Rattle.jb_base.specs.Classes.{class_of}
 use Rattle.jb_rows.specs.Fields.{code_of, cut, field_from, fields_in, fields_up_to, packed, packed_field, size_code, size_from}
-use Rattle.jb_slices.specs.Example.{SomeAreSoFar, SomeAreWhole, SomeFail, class_five, example_job, failed_slice, fault_of_nine, folder_with, limits_of, one_function, raised_slice, second_slice, three}
-use Rattle.jb_slices.specs.Function.{Pass}
-use Rattle.jb_slices.specs.Job.{AreRaised, HasSlice, rules_of, slice_at}
-use Rattle.jb_slices.specs.Slice.{IsSliceFailed, IsSliceSoFar, IsSliceWhole}
+use Rattle.jb_slices.specs.{Example.{SomeAreSoFar, SomeAreWhole, SomeFail, class_five, example_job, failed_slice, fault_of_nine, folder_with, limits_of, one_function, raised_slice, second_slice, three}, Function.Pass, Job.{AreRaised, HasSlice, rules_of, slice_at}, Slice.{IsSliceFailed, IsSliceSoFar, IsSliceWhole, IsStateSoFar, slice_state}}
 
 none-pass : (limit : ℕ) → Pass (rules_of example_job (limits_of limit)) []
 none-pass limit = record { skippable = tt; few = omega arith }
@@ -26,107 +23,73 @@ raised = record { skips = omega arith; job_skips = omega arith; retries = omega 
 
 -- ---- the first slice
 
-failed-so-far : IsSliceSoFar example_job one_function 0 (slice_at example_job three 0) failed_slice
+failed-state : IsStateSoFar example_job one_function 0 (slice_at example_job three 0) (slice_state failed_slice)
 unfolding even_ranges code_of cut field_from fields_in fields_up_to packed packed_field size_code size_from
-failed-so-far = (
-  record { first = refl; header_is = refl },
-  (
-    record {
-      begun = refl;
-      raised = same 0;
-      ranges = refl;
-      so_far = (
-        refl,
-        omega arith,
-        record {
-          results = refl;
-          skips = refl;
-          written = refl;
-          counted = refl;
-          skipped = refl;
-          passed = none-pass 0;
-          failed = λ e. (
-            fault_of_nine,
-            refl,
-            record { before = 1; within = omega arith; number = refl; class = refl; passed = none-pass 0; fails = one-does-not },
-          );
-          finished = λ e. cc;
-        },
-        refl,
-      );
-    },
-    tt,
-  ),
+failed-state = (
+  refl,
+  omega arith,
+  record {
+    results = refl;
+    skips = refl;
+    written = refl;
+    counted = refl;
+    skipped = refl;
+    passed = none-pass 0;
+    failed = λ e. (fault_of_nine, refl, record { before = 1; within = omega arith; number = refl; class = refl; passed = none-pass 0; fails = one-does-not });
+    finished = λ e. cc;
+  },
+  refl,
 )
+
+failed-so-far : IsSliceSoFar example_job one_function 0 (slice_at example_job three 0) failed_slice
+unfolding even_ranges
+failed-so-far = (record { first = refl; header_is = refl }, (record { begun = refl; raised = same 0; ranges = refl; so_far = failed-state }, tt))
 
 failed : IsSliceFailed example_job one_function (limits_of 0) 0 (slice_at example_job three 0) failed_slice
 failed = record { so_far = failed-so-far; limits_are = refl; ended = (refl, tt); failed = inl refl }
 
-first-whole : IsSliceWhole example_job one_function (limits_of 1) 0 (slice_at example_job three 0) raised_slice
+first-state : IsStateSoFar example_job one_function 0 (slice_at example_job three 0) (slice_state raised_slice)
 unfolding even_ranges code_of cut field_from fields_in fields_up_to packed packed_field size_code size_from
-first-whole =
-    record {
-      so_far = (
-        failed-so-far.0,
-        (
-          failed-so-far.1.0,
-          (
-            record {
-              begun = refl;
-              raised = raised;
-              ranges = refl;
-              so_far = (refl, omega arith, record { results = refl; skips = refl; written = refl; counted = refl; skipped = refl; passed = one-passes; failed = λ e. cc; finished = λ e. refl }, refl);
-            },
-            tt,
-          ),
-        ),
-      );
-      begun = refl;
-      raised = same 1;
-      partitions = (refl, omega arith, record { results = refl; skips = refl; written = refl; counted = refl; skipped = refl; passed = one-passes; failed = λ e. cc; finished = λ e. refl }, refl);
-      finished = (refl, tt);
-    }
+first-state = (refl, omega arith, record { results = refl; skips = refl; written = refl; counted = refl; skipped = refl; passed = one-passes; failed = λ e. cc; finished = λ e. refl }, refl)
+
+first-whole : IsSliceWhole example_job one_function (limits_of 1) 0 (slice_at example_job three 0) raised_slice
+unfolding even_ranges
+first-whole = record {
+  so_far = (failed-so-far.0, (failed-so-far.1.0, (record { begun = refl; raised = raised; ranges = refl; so_far = first-state }, tt)));
+  begun = refl;
+  raised = same 1;
+  partitions = first-state;
+  finished = (refl, tt);
+}
 
 -- ---- the second one
 
-second-whole : IsSliceWhole example_job one_function (limits_of 1) 1 (slice_at example_job three 1) second_slice
+second-state : IsStateSoFar example_job one_function 1 (slice_at example_job three 1) (slice_state second_slice)
 unfolding even_ranges code_of cut field_from fields_in fields_up_to packed packed_field size_code size_from
+second-state = (refl, omega arith, record { results = refl; skips = refl; written = refl; counted = refl; skipped = refl; passed = none-pass 1; failed = λ e. cc; finished = λ e. refl }, refl)
+
+second-whole : IsSliceWhole example_job one_function (limits_of 1) 1 (slice_at example_job three 1) second_slice
+unfolding even_ranges
 second-whole = record {
-  so_far = (
-    record { first = refl; header_is = refl },
-    (
-      record {
-        begun = refl;
-        raised = same 1;
-        ranges = refl;
-        so_far = (refl, omega arith, record { results = refl; skips = refl; written = refl; counted = refl; skipped = refl; passed = none-pass 1; failed = λ e. cc; finished = λ e. refl }, refl);
-      },
-      tt,
-    ),
-  );
+  so_far = (record { first = refl; header_is = refl }, (record { begun = refl; raised = same 1; ranges = refl; so_far = second-state }, tt));
   begun = refl;
   raised = same 1;
-  partitions = (refl, omega arith, record { results = refl; skips = refl; written = refl; counted = refl; skipped = refl; passed = none-pass 1; failed = λ e. cc; finished = λ e. refl }, refl);
+  partitions = second-state;
   finished = (refl, tt);
 }
 
 -- ---- jobs
 
-pub some-fail : SomeFail
-some-fail = inl (record { number = 0; failed = failed })
+pub some_fail : SomeFail
+some_fail = inl (record { number = 0; failed = failed })
 
 each-whole : (k : ℕ) → k < 2 → IsSliceWhole example_job one_function (limits_of 1) k (slice_at example_job three k) (folder_with raised_slice second_slice k)
 each-whole zero low = first-whole
 each-whole (suc zero) low = second-whole
 each-whole (suc (suc k)) low = absurd (omega (arith, low))
 
-pub some-whole : SomeAreWhole
-some-whole = record {
-  last = 1;
-  is_last = record { has = omega arith; shorter = omega arith };
-  whole = each-whole;
-  few = omega arith;
-}
+pub some_whole : SomeAreWhole
+some_whole = record { last = 1; is_last = record { has = omega arith; shorter = omega arith }; whole = each-whole; few = omega arith }
 
 each-so-far : (k : ℕ) → IsSliceSoFar example_job one_function k (slice_at example_job three k) (folder_with failed_slice second_slice k)
 each-so-far zero = failed-so-far
@@ -138,5 +101,5 @@ no-more zero hasnt = absurd (hasnt (omega arith))
 no-more (suc zero) hasnt = absurd (hasnt (omega arith))
 no-more (suc (suc k)) hasnt = refl
 
-pub some-so-far : SomeAreSoFar
-some-so-far = record { each = each-so-far; none = no-more }
+pub some_so_far : SomeAreSoFar
+some_so_far = record { each = each-so-far; none = no-more }

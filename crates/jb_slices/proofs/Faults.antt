@@ -1,11 +1,7 @@
 -- Faults of items, one after the other.
 use Rattle.std.proofs.Common.{◌≡◌, ℕ, zero, suc, ◌+◌, ◌≤◌, List, [], ◌∷◌, ◌++◌, length, take, drop, refl, ap, sym, ◌∙◌, arith, length-append, subst}
-use Rattle.std.specs.Prelude.{None, Some, Option, MatchOption, ⊤, true}
-use Rattle.std.specs.List.{AllByRecursion, cons_option}
-use Rattle.std.proofs.lemmas.List.{take-append-drop}
-use Rattle.std.proofs.lemmas.List.Elements.{filter_map-append}
-use Rattle.jb_base.specs.Rules.{RulesRecord}
-use Rattle.jb_base.specs.declared.class.ClassId.{ClassId}
+use Rattle.std.{specs.Prelude.{None, Some, Option, MatchOption, ⊤, true}, specs.List.{AllByRecursion, cons_option}, proofs.lemmas.List.take-append-drop, proofs.lemmas.List.Elements.filter_map-append}
+use Rattle.jb_base.{specs.Rules.RulesRecord, specs.declared.class.ClassId.ClassId}
 use Rattle.jb_rules.specs.Decide.{has_class}
 use Rattle.jb_slices.specs.Function.{Fault, Function, ItemsPass, Pass, all_results, fault_and, fault_classes, faults_from, refusal_of, result_of}
 
@@ -53,19 +49,16 @@ pass-none rules = record { skippable = tt; few = few-none rules.skip_limit }
 
 -- ---- fronts
 
-all-front : (rules : RulesRecord) (xs ys : List ClassId) → AllByRecursion (λ class. has_class rules.skippable class ≡ true) (xs ++ ys)
-    → AllByRecursion (λ class. has_class rules.skippable class ≡ true) xs
-all-front rules [] ys all = tt
-all-front rules (x ∷ xs) ys all = (all.0, all-front rules xs ys all.1)
-
-classes-fewer : (xs ys : List ClassId) → length xs ≤ length (xs ++ ys)
-classes-fewer xs ys = let e = length-append xs ys in omega (arith, e)
+pub all-parts : {A : Type 0} (P : A → Type 0) (xs ys : List A) → AllByRecursion P (xs ++ ys) → AllByRecursion P xs × AllByRecursion P ys
+all-parts P [] ys all = (tt, all)
+all-parts P (x ∷ xs) ys all = let rest = all-parts P xs ys all.1 in ((all.0, rest.0), rest.1)
 
 pub pass-front : (rules : RulesRecord) (xs ys : List ClassId) → Pass rules (xs ++ ys) → Pass rules xs
-pass-front rules xs ys pass = record {
-  skippable = all-front rules xs ys pass.skippable;
-  few = few-less rules.skip_limit (length xs) (length (xs ++ ys)) (classes-fewer xs ys) pass.few;
-}
+pass-front rules xs ys pass =
+    let sizes = length-append xs ys in record {
+      skippable = (all-parts (λ (class : ClassId). has_class rules.skippable class ≡ true) xs ys pass.skippable).0;
+      few = few-less rules.skip_limit (length xs) (length (xs ++ ys)) (omega (arith, sizes)) pass.few;
+    }
 
 classes-split : (f : Function) (n : ℕ) (items : List (List ℕ)) → fault_classes f items ≡ fault_classes f (take n items) ++ fault_classes f (drop n items)
 classes-split f n items = ap (fault_classes f) (sym (take-append-drop n items)) ∙ classes-append f (take n items) (drop n items)
@@ -77,5 +70,5 @@ items-pass-front f rules n items pass =
 pub fewer-classes : (f : Function) (n : ℕ) (items : List (List ℕ)) → length (fault_classes f (take n items)) ≤ length (fault_classes f items)
 fewer-classes f n items =
     let e = ap length (classes-split f n items) in
-    let few = classes-fewer (fault_classes f (take n items)) (fault_classes f (drop n items)) in
-    omega (arith, e, few)
+    let sizes = length-append (fault_classes f (take n items)) (fault_classes f (drop n items)) in
+    omega (arith, e, sizes)

@@ -1,9 +1,6 @@
 -- One checkpoint after the other.
 use Rattle.std.proofs.Common.{ℕ, List, [], ◌∷◌, ◌++◌}
-use Rattle.jb_slices.specs.Checkpoint.{Checkpoint}
-use Rattle.jb_slices.specs.Job.{Job}
-use Rattle.jb_slices.specs.Slice.{Follow, Functions, SliceState, led, next, start}
-use Rattle.jb_slices.specs.SliceLaws.{FrontsAreSoFar, OneMoreFollows}
+use Rattle.jb_slices.specs.{Checkpoint.Checkpoint, Job.Job, Slice.{Follow, Functions, SliceState, led, next, start}, SliceLaws.{FrontsAreSoFar, OneMoreFollows}}
 
 follow-front : (job : Job) (functions : Functions) (number : ℕ) (items : List (List ℕ)) (at : SliceState) (all more : List Checkpoint)
     → Follow job functions number items at (all ++ more) → Follow job functions number items at all
@@ -15,8 +12,8 @@ follow-more : (job : Job) (functions : Functions) (number : ℕ) (items : List (
 follow-more job functions number items at [] more before later = later
 follow-more job functions number items at (c ∷ cs) more before later = (before.0, follow-more job functions number items (next at c) cs more before.1 later)
 
-pub one-more : OneMoreFollows
-one-more job functions number items all c so-far fits = follow-more job functions number items start all (c ∷ []) so-far (fits, tt)
+pub one_more : OneMoreFollows
+one_more job functions number items all c so-far fits = follow-more job functions number items start all (c ∷ []) so-far (fits, tt)
 
 pub fronts : FrontsAreSoFar
 fronts job functions number items all more so-far = follow-front job functions number items start all more so-far

@@ -1,15 +1,9 @@
 -- What a whole slice has.
 use Rattle.std.proofs.Common.{◌≡◌, ℕ, ◌+◌, ◌-◌, List, [], ◌∷◌, ◌++◌, take, drop, ap, sym, ◌∙◌, arith}
-use Rattle.std.proofs.lemmas.List.{take-append-drop}
+use Rattle.std.proofs.lemmas.List.{take-append-drop, take-take}
 use Rattle.jb_base.specs.Rules.{RulesRecord}
-use Rattle.jb_slices.specs.Checkpoint.{Progress}
-use Rattle.jb_slices.specs.Function.{Function, all_results, faults_from}
-use Rattle.jb_slices.specs.Job.{first_of, rules_of}
-use Rattle.jb_slices.specs.Partitions.{AreFinished, ArePartitionsSoFar, joined_results, joined_skips}
-use Rattle.jb_slices.specs.Slice.{slice_state}
-use Rattle.jb_slices.specs.SliceLaws.{WholeSlicesHaveAll, WholeSlicesHaveSkips}
+use Rattle.jb_slices.specs.{Checkpoint.Progress, Function.{Function, all_results, faults_from}, Job.{first_of, rules_of}, Partitions.{AreFinished, ArePartitionsSoFar, joined_results, joined_skips}, Slice.slice_state, SliceLaws.{WholeSlicesHaveAll, WholeSlicesHaveSkips}}
 use Rattle.jb_slices.proofs.Faults.{faults-split, results-append}
-use Rattle.jb_slices.proofs.Lists.{take-twice}
 
 -- all its own items are before a finished partition's checkpoint
 pub own-whole : (p : Progress) (from : ℕ) (items : List (List ℕ)) → p.row.lo ≡ from → p.row.at ≡ p.row.hi
@@ -17,7 +11,7 @@ pub own-whole : (p : Progress) (from : ℕ) (items : List (List ℕ)) → p.row.
 own-whole p from items lo end =
     let n = p.row.hi - from in
     let e : p.row.at - p.row.lo ≡ n = omega (arith, lo, end) in
-    ap (λ k. take k (take n items)) e ∙ take-twice n items
+    ap (λ k. take k (take n items)) e ∙ take-take n n items (omega arith)
 
 pub join-results : (f : Function) (rules : RulesRecord) (first from : ℕ) (items : List (List ℕ)) (ps : List Progress)
     → ArePartitionsSoFar f rules first from items ps → AreFinished ps → joined_results ps ≡ all_results f items

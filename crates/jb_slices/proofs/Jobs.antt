@@ -1,18 +1,11 @@
 -- What the slices of a job have.
 use Rattle.std.proofs.Common.{◌≡◌, ℕ, zero, suc, ◌+◌, ◌<◌, ◌≤◌, List, ◌++◌, length, take, ap, sym, ◌∙◌, arith, subst, inl, inr}
-use Rattle.std.specs.Prelude.{MatchOption, ⊤}
+use Rattle.std.{specs.Prelude.{MatchOption, ⊤}, proofs.lemmas.Bool.{cases_lt, cases_order}}
 use Rattle.jb_mapper.specs.EvenCover.{even_ranges}
-use Rattle.jb_slices.specs.Folder.{AreWholeBefore, Folder, HasFailedSlice, HasTooManySkips, HaveStamp, skips_before}
-use Rattle.jb_slices.specs.Function.{Fault, all_results, fault_classes, faults_from}
-use Rattle.jb_slices.specs.Job.{IsLastSlice, Job, Limits, first_of, rules_of, slice_at}
-use Rattle.jb_slices.specs.JobLaws.{FailedJobsDont, LastSlicesAreOne, WholeJobsHaveAll, WholeJobsHaveSkips, WholeJobsPass, WholeSlicesAreAFront}
-use Rattle.jb_slices.specs.Passing.{AllPass, SlicePasses}
-use Rattle.jb_slices.specs.Slice.{Functions, results_in, skips_in}
-use Rattle.jb_slices.proofs.Faults.{faults-count, faults-split, few-less, fewer-classes, results-append}
+use Rattle.jb_slices.specs.{Folder.{AreWholeBefore, Folder, HaveStamp, skips_before}, Function.{Fault, all_results, fault_classes, faults_from}, Job.{IsLastSlice, Job, Limits, first_of, rules_of, slice_at}, JobLaws.{FailedJobsDont, LastSlicesAreOne, WholeJobsHaveAll, WholeJobsHaveSkips, WholeJobsPass, WholeSlicesAreAFront}, Passing.SlicePasses, Slice.{Functions, results_in, skips_in}}
+use Rattle.jb_slices.proofs.{Faults.{faults-count, faults-split, few-less, fewer-classes, results-append}, Passing.{ranges-none, stands}, Seams.{all-of-them, before-the-slice, empty-after, one-slice-more, the-slice, times-less, within-last}}
 use Rattle.jb_slices.proofs.Having as slice
-use Rattle.jb_slices.proofs.Passing.{order, ranges-none, stands}
 use Rattle.jb_slices.proofs.Passing as passing
-use Rattle.jb_slices.proofs.Seams.{all-of-them, before-the-slice, empty-after, one-slice-more, the-slice, times-less, within-last}
 
 -- ---- results and skips
 
@@ -50,8 +43,8 @@ pub all : WholeJobsHaveAll
 all job functions limits items folder stamp w stamps =
     front job functions limits items folder stamp (suc w.last) w.whole stamps ∙ ap (all_results (functions stamp)) (all-of-them job items w.last w.is_last)
 
-pub all-skips : WholeJobsHaveSkips
-all-skips job functions limits items folder stamp w stamps =
+pub all_skips : WholeJobsHaveSkips
+all_skips job functions limits items folder stamp w stamps =
     front-skips job functions limits items folder stamp (suc w.last) w.whole stamps ∙ ap (faults_from (functions stamp) 0) (all-of-them job items w.last w.is_last)
 
 -- ---- the last one
@@ -65,48 +58,38 @@ not-before job items last other is also less =
 
 pub one-last : LastSlicesAreOne
 one-last job items last other is also =
-    elim (order last other) [
-      | inl less ↦ absurd (not-before job items last other is also less)
-      | inr more ↦ elim more [ inl same ↦ same | inr less ↦ absurd (not-before job items other last also is less) ]
+    elim (cases_order last other) [
+      | inl same ↦ same
+      | inr (inl less) ↦ absurd (not-before job items last other is also less)
+      | inr (inr more) ↦ absurd (not-before job items other last also is more)
     ]
 
 -- ---- the rules
 
-slice-passes : (job : Job) (functions : Functions) (limits : Limits) (items : List (List ℕ)) (folder : Folder) (stamp : List ℕ) (count k : ℕ)
-    → AreWholeBefore job functions limits items folder count → HaveStamp stamp folder count → k < count
-    → SlicePasses job limits (functions stamp) (slice_at job items k)
-slice-passes job functions limits items folder stamp count k whole stamps low =
-    let w = whole k low in
-    subst (λ (s : List ℕ). SlicePasses job limits (functions s) (slice_at job items k)) (stamps k low w.begun)
-    (passing.whole job functions limits k (slice_at job items k) (folder k) w)
-
 pub completed : WholeJobsPass
 completed job functions limits items folder stamp w stamps =
     let f = functions stamp in
-    let skips = ap (λ (s : List Fault). length s) (all-skips job functions limits items folder stamp w stamps) ∙ faults-count f 0 items in
+    let skips = ap (λ (s : List Fault). length s) (all_skips job functions limits items folder stamp w stamps) ∙ faults-count f 0 items in
     record {
-      each = λ k. elim (order w.last k) [
+      each = λ k. elim (cases_lt w.last k) [
         | inl later ↦ ranges-none f (rules_of job limits) 0 (slice_at job items k) (even_ranges (length (slice_at job items k)) job.partitions) (empty-after job items w.last k w.is_last later)
-        | inr more ↦ elim more [
-          | inl same ↦ slice-passes job functions limits items folder stamp (suc w.last) k w.whole stamps (omega (arith, same))
-          | inr less ↦ slice-passes job functions limits items folder stamp (suc w.last) k w.whole stamps (omega (arith, less))
-        ]
+        | inr within ↦
+            let low : k < suc w.last = omega (arith, within) in
+            let whole = w.whole k low in
+            subst (λ (s : List ℕ). SlicePasses job limits (functions s) (slice_at job items k)) (stamps k low whole.begun)
+            (passing.whole job functions limits k (slice_at job items k) (folder k) whole)
       ];
       few = subst (λ (n : ℕ). MatchOption limits.job_skips ⊤ (λ limit. n ≤ limit)) skips w.few;
     }
 
-failed-slice : (job : Job) (functions : Functions) (limits : Limits) (items : List (List ℕ)) (folder : Folder) (stamp : List ℕ)
-    → HasFailedSlice job functions limits items folder → ((count : ℕ) → HaveStamp stamp folder count) → AllPass job limits (functions stamp) items → ⊥
-failed-slice job functions limits items folder stamp has stamps pass =
+pub failed : FailedJobsDont
+failed job functions limits items folder stamp (inl has) stamps pass =
     let k = has.number in
     let s = stands job functions k (slice_at job items k) (folder k) has.failed.so_far has.failed.failed in
     let low : k < suc k = omega arith in
     passing.failed job functions limits k (slice_at job items k) (folder k) has.failed
     (subst (λ (s : List ℕ). SlicePasses job limits (functions s) (slice_at job items k)) (sym (stamps (suc k) k low s.begun)) (pass.each k))
-
-too-many : (job : Job) (functions : Functions) (limits : Limits) (items : List (List ℕ)) (folder : Folder) (stamp : List ℕ)
-    → HasTooManySkips job functions limits items folder → ((count : ℕ) → HaveStamp stamp folder count) → AllPass job limits (functions stamp) items → ⊥
-too-many job functions limits items folder stamp has stamps pass =
+failed job functions limits items folder stamp (inr has) stamps pass =
     let f = functions stamp in
     let m = first_of job has.seam in
     let e : length (skips_before folder has.seam) ≡ length (fault_classes f (take m items)) =
@@ -114,10 +97,3 @@ too-many job functions limits items folder stamp has stamps pass =
     let fewer = fewer-classes f m items in
     let less : length (skips_before folder has.seam) ≤ length (fault_classes f items) = omega (arith, e, fewer) in
     has.many (few-less limits.job_skips (length (skips_before folder has.seam)) (length (fault_classes f items)) less pass.few)
-
-pub failed : FailedJobsDont
-failed job functions limits items folder stamp has stamps pass =
-    elim has [
-      | inl slice ↦ failed-slice job functions limits items folder stamp slice stamps pass
-      | inr many ↦ too-many job functions limits items folder stamp many stamps pass
-    ]

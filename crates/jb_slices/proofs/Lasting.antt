@@ -1,8 +1,6 @@
 -- Which slice is the last one.
 use Rattle.std.proofs.Common.{◌≡◌, ℕ, suc, ◌*◌, ◌/◌, ◌%◌, ◌<◌, ◌≤◌, List, length, drop, Bool, true, false, nat_lt, ap, arith, ltb-true, ltb-false, length-drop}
-use Rattle.std.specs.Bool.{MatchBool}
-use Rattle.std.proofs.Math.Nat.{mod-add-div'}
-use Rattle.std.proofs.lemmas.List.{length-take}
+use Rattle.std.{specs.Bool.MatchBool, proofs.Math.Nat.mod-add-div', proofs.lemmas.List.length-take}
 use Rattle.jb_slices.specs.Job.{HasSlice, IsLastSlice, Job, first_of, slice_at}
 use Rattle.jb_slices.proofs.Seams.{next-first}
 

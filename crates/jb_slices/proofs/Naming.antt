@@ -1,19 +1,10 @@
 -- The fault by which each failed partition failed.
 use Rattle.std.proofs.Common.{◌≡◌, ℕ, suc, ◌+◌, ◌-◌, List, [], ◌∷◌, length, take, drop, Bool, true, false, refl, ap, sym, ◌∙◌, arith, subst, inl, inr}
-use Rattle.std.specs.Prelude.{None, Some, Option, slice_range}
-use Rattle.std.specs.List.{AllByRecursion}
+use Rattle.std.{specs.Prelude.{None, Some, Option, slice_range}, specs.List.AllByRecursion, proofs.lemmas.Option.same_Some}
 use Rattle.jb_base.specs.Rules.{RulesRecord}
-use Rattle.jb_rules.specs.States.{is_failed}
-use Rattle.jb_rules.specs.declared.row.RowState.{RowState}
-use Rattle.jb_rules.specs.declared.row.RowState.TheVariants.{Failed, Finished, Running, Waiting}
-use Rattle.jb_slices.specs.Checkpoint.{Progress}
-use Rattle.jb_slices.specs.Failures.{EachFailureIsNamed, PartitionFailure, FailuresAreNamed, IsFailureOf, count_failed, failed_count, failures_from, failure_and}
-use Rattle.jb_slices.specs.Function.{Fault, Function}
-use Rattle.jb_slices.specs.Job.{first_of, rules_of}
-use Rattle.jb_slices.specs.Partitions.{ArePartitionsSoFar, IsPartitionSoFar, IsStop}
-use Rattle.jb_slices.specs.Slice.{slice_state}
-use Rattle.jb_slices.proofs.Lists.{drop-drop}
-use Rattle.jb_slices.proofs.Passing.{stood}
+use Rattle.jb_rules.{specs.States.is_failed, specs.declared.row.RowState.RowState, specs.declared.row.RowState.TheVariants.{Failed, Finished, Running, Waiting}}
+use Rattle.jb_slices.specs.{Checkpoint.Progress, Failures.{EachFailureIsNamed, PartitionFailure, FailuresAreNamed, IsFailureOf, count_failed, failed_count, failures_from, failure_and}, Function.{Fault, Function}, Job.{first_of, rules_of}, Partitions.{ArePartitionsSoFar, IsPartitionSoFar, IsStop}, Slice.slice_state}
+use Rattle.jb_slices.proofs.{Lists.drop-drop, Passing.stood}
 
 -- ---- one partition
 
@@ -23,27 +14,14 @@ failed-is (Running lane) e = cc
 failed-is Finished e = cc
 failed-is Failed e = refl
 
-abbrev fault-or : Fault → Option Fault → Fault
-fault-or fault None = fault
-fault-or fault (Some other) = other
-
-one-fault : (a b : Fault) → Some a ≡ Some b → a ≡ b
-one-fault a b e = ap (fault-or a) e
-
--- the partition's own items are those of its range
-named-here : (f : Function) (rules : RulesRecord) (first from : ℕ) (all : List (List ℕ)) (p : Progress) (partition : ℕ) (fault : Fault)
-    → p.row.lo ≡ from → IsStop f rules (first + from) (take (p.row.hi - from) (drop from all)) fault
-    → IsStop f rules (first + p.row.lo) (slice_range all p.row.lo p.row.hi) fault
-named-here f rules first from all p partition fault lo stop = subst (λ (n : ℕ). IsStop f rules (first + n) (slice_range all n p.row.hi) fault) (sym lo) stop
-
 and-named : (f : Function) (rules : RulesRecord) (first from : ℕ) (all : List (List ℕ)) (p : Progress) (partition : ℕ) (later : List PartitionFailure)
     → p.row.lo ≡ from → IsPartitionSoFar f rules (first + from) (take (p.row.hi - from) (drop from all)) p → AllByRecursion (IsFailureOf f rules first all) later
     → (failed : Bool) → is_failed p.row.state ≡ failed → (stop : Option Fault) → p.stop ≡ stop
     → AllByRecursion (IsFailureOf f rules first all) (failure_and partition p.row failed stop later)
 and-named f rules first from all p partition later lo so-far named true e (Some fault) is =
     let s = so-far.failed (failed-is p.row.state e) in
-    let same : s.0 ≡ fault = one-fault s.0 fault (sym s.1 ∙ is) in
-    (named-here f rules first from all p partition fault lo (subst (λ (x : Fault). IsStop f rules (first + from) (take (p.row.hi - from) (drop from all)) x) same s.2), named)
+    let stop = subst (λ (x : Fault). IsStop f rules (first + from) (take (p.row.hi - from) (drop from all)) x) (same_Some s.0 fault (sym s.1 ∙ is)) s.2 in
+    (subst (λ (n : ℕ). IsStop f rules (first + n) (slice_range all n p.row.hi) fault) (sym lo) stop, named)
 and-named f rules first from all p partition later lo so-far named true e None is = named
 and-named f rules first from all p partition later lo so-far named false e stop is = named
 
@@ -83,8 +61,8 @@ each job functions number items all so-far =
       | inr standing ↦ named (functions at.stamp) (rules_of job at.limits) (first_of job number) 0 items items at.partitions 0 refl standing.so_far
     ]
 
-pub all-of-them : EachFailureIsNamed
-all-of-them job functions number items all so-far =
+pub all_named : EachFailureIsNamed
+all_named job functions number items all so-far =
     let at = slice_state all in
     elim (stood job functions number items all so-far) [
       | inl none ↦ subst (λ (ps : List Progress). length (failures_from 0 ps) ≡ count_failed ps) (sym none) refl

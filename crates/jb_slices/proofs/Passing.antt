@@ -1,30 +1,20 @@
 -- What the rules decide of a slice.
-use Rattle.std.proofs.Common.{◌≡◌, ℕ, zero, suc, ◌+◌, ◌-◌, ◌<◌, ◌≤◌, List, [], ◌∷◌, length, take, drop, true, refl, ap, sym, ◌∙◌, arith, subst, ◌⊎◌, inl, inr}
-use Rattle.std.specs.Prelude.{None, Some, Option, slice_index_or}
-use Rattle.jb_base.specs.Rules.{RulesRecord}
-use Rattle.jb_base.specs.declared.class.ClassId.{ClassId}
-use Rattle.jb_base.specs.declared.range.Range.{Range}
+use Rattle.std.proofs.Common.{◌≡◌, ℕ, suc, ◌+◌, ◌-◌, ◌<◌, ◌≤◌, List, [], ◌∷◌, length, take, drop, true, refl, ap, sym, ◌∙◌, arith, subst, ◌⊎◌, inl, inr}
+use Rattle.std.{specs.Prelude.slice_index_or, proofs.lemmas.Bool.cases_order, proofs.lemmas.List.{drop_all, take_all}, proofs.lemmas.Option.same_Some}
+use Rattle.jb_base.{specs.Rules.RulesRecord, specs.declared.class.ClassId.ClassId, specs.declared.range.Range.Range}
 use Rattle.jb_mapper.specs.EvenCover.{even_ranges}
-use Rattle.jb_slices.specs.Checkpoint.{Begins, Checkpoint, GoesOn, Progress}
-use Rattle.jb_slices.specs.Function.{Fault, Function, ItemsPass, refusal_of}
-use Rattle.jb_slices.specs.Job.{Job, Limits, first_of, rules_of}
-use Rattle.jb_slices.specs.Partitions.{AreFinished, ArePartitionsSoFar, HasFailed, IsStop, ranges_of}
-use Rattle.jb_slices.specs.Passing.{RangesPass, SlicePasses}
-use Rattle.jb_slices.specs.Slice.{Follow, Functions, IsNext, IsStateSoFar, IsSliceSoFar, SliceState, led, next, slice_state, start}
-use Rattle.jb_slices.specs.SliceLaws.{FailedSlicesDont, StopsAreOne, WholeSlicesPass}
-use Rattle.jb_slices.proofs.Faults.{items-pass-front, pass-none}
-use Rattle.jb_slices.proofs.Having.{own-whole}
-use Rattle.jb_slices.proofs.Lists.{drop-nil, take-less, take-nil}
-use Rattle.jb_slices.proofs.Raising.{slice}
+use Rattle.jb_slices.specs.{Checkpoint.{Begins, Checkpoint, GoesOn, Progress}, Function.{Fault, Function, ItemsPass, refusal_of}, Job.{Job, Limits, first_of, rules_of}, Partitions.{AreFinished, ArePartitionsSoFar, HasFailed, IsStop, ranges_of}, Passing.{RangesPass, SlicePasses}, Slice.{Follow, Functions, IsNext, IsStateSoFar, IsSliceSoFar, SliceState, led, next, slice_state, start}, SliceLaws.{FailedSlicesDont, StopsAreOne, WholeSlicesPass}}
+use Rattle.jb_slices.proofs.{Faults.{items-pass-front, pass-none}, Having.own-whole, Lists.take-less, Raising.slice}
 
 -- ---- ranges
 
 pub ranges-none : (f : Function) (rules : RulesRecord) (from : ℕ) (items : List (List ℕ)) (ranges : List Range) → items ≡ [] → RangesPass f rules from items ranges
 ranges-none f rules from items [] none = tt
-ranges-none f rules from items (range ∷ ranges) none = (
-  subst (λ (xs : List (List ℕ)). ItemsPass f rules xs) (sym (take-nil (range.hi - from) items none)) (pass-none rules),
-  ranges-none f rules range.hi (drop (range.hi - from) items) ranges (drop-nil (range.hi - from) items none),
-)
+ranges-none f rules from items (range ∷ ranges) none =
+    let n = range.hi - from in (
+      subst (λ (xs : List (List ℕ)). ItemsPass f rules xs) (sym (ap (take n) none ∙ take_all n [] (omega arith))) (pass-none rules),
+      ranges-none f rules range.hi (drop n items) ranges (ap (drop n) none ∙ drop_all n [] (omega arith)),
+    )
 
 finished-pass : (f : Function) (rules : RulesRecord) (first from : ℕ) (items : List (List ℕ)) (ps : List Progress)
     → ArePartitionsSoFar f rules first from items ps → AreFinished ps → RangesPass f rules from items (ranges_of ps)
@@ -109,13 +99,7 @@ failed job functions limits number items all w pass =
 
 -- which of them is less
 pub order : (a b : ℕ) → (a < b) ⊎ ((a ≡ b) ⊎ (b < a))
-order zero zero = inr (inl refl)
-order zero (suc b) = inl (omega arith)
-order (suc a) zero = inr (inr (omega arith))
-order (suc a) (suc b) = elim (order a b) [
-  | inl less ↦ inl (omega (arith, less))
-  | inr more ↦ elim more [ inl same ↦ inr (inl (ap suc same)) | inr less ↦ inr (inr (omega (arith, less))) ]
-]
+order a b = elim (cases_order a b) [ inl same ↦ inr (inl same) | inr (inl less) ↦ inl less | inr (inr more) ↦ inr (inr more) ]
 
 not-earlier : (f : Function) (rules : RulesRecord) (first : ℕ) (own : List (List ℕ)) (fault other : Fault) → (s : IsStop f rules first own fault) → (t : IsStop f rules first own other)
     → s.before < t.before → ⊥
@@ -123,27 +107,18 @@ not-earlier f rules first own fault other s t less =
     let few : suc s.before ≤ t.before = omega (arith, less) in
     s.fails (subst (λ (xs : List (List ℕ)). ItemsPass f rules xs) (take-less (suc s.before) t.before own few) (items-pass-front f rules (suc s.before) (take t.before own) t.passed))
 
-abbrev class-or : ClassId → Option ClassId → ClassId
-class-or class None = class
-class-or class (Some other) = other
-
-some-one : (a b : ClassId) → Some a ≡ Some b → a ≡ b
-some-one a b e = ap (class-or a) e
-
 alike : (f : Function) (rules : RulesRecord) (first : ℕ) (own : List (List ℕ)) (fault other : Fault) → (s : IsStop f rules first own fault) → (t : IsStop f rules first own other)
     → s.before ≡ t.before → fault ≡ other
 alike f rules first own fault other s t e =
     let number : fault.number ≡ other.number = s.number ∙ ap (λ (n : ℕ). first + n) e ∙ sym t.number in
     let class : fault.class ≡ other.class =
-    some-one fault.class other.class (sym s.class ∙ ap (λ (n : ℕ). refusal_of f (slice_index_or own n [])) e ∙ t.class) in
+    same_Some fault.class other.class (sym s.class ∙ ap (λ (n : ℕ). refusal_of f (slice_index_or own n [])) e ∙ t.class) in
     ap (λ (n : ℕ). record fault { number = n }) number ∙ ap (λ (c : ClassId). record other { class = c }) class
 
-pub one-stop : StopsAreOne
-one-stop f rules first own fault other s t =
-    elim (order s.before t.before) [
-      | inl less ↦ absurd (not-earlier f rules first own fault other s t less)
-      | inr more ↦ elim more [
-        | inl same ↦ alike f rules first own fault other s t same
-        | inr less ↦ absurd (not-earlier f rules first own other fault t s less)
-      ]
+pub one_stop : StopsAreOne
+one_stop f rules first own fault other s t =
+    elim (cases_order s.before t.before) [
+      | inl same ↦ alike f rules first own fault other s t same
+      | inr (inl less) ↦ absurd (not-earlier f rules first own fault other s t less)
+      | inr (inr more) ↦ absurd (not-earlier f rules first own other fault t s more)
     ]

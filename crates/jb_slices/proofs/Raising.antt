@@ -3,10 +3,7 @@ use Rattle.std.proofs.Common.{ℕ, ◌-◌, ◌≤◌, List, [], ◌∷◌, leng
 use Rattle.std.specs.Prelude.{None, Some, Option, MatchOption, ⊤}
 use Rattle.jb_base.specs.declared.range.Range.{Range}
 use Rattle.jb_mapper.specs.EvenCover.{even_ranges}
-use Rattle.jb_slices.specs.Function.{Function, fault_classes}
-use Rattle.jb_slices.specs.Job.{AreRaised, Classes, FaultClasses, IsRaised, ItemCount, Job, Limits, Name, Partitions, SliceLength, rules_of, slice_at}
-use Rattle.jb_slices.specs.LimitLaws.{PartsMakeAnIdentity, RaisedJobsStayWhole, RaisedLimitsPass, RaisedLimitsPassAll}
-use Rattle.jb_slices.specs.Passing.{RangesPass, SlicePasses}
+use Rattle.jb_slices.specs.{Function.{Function, fault_classes}, Job.{AreRaised, Classes, FaultClasses, IsRaised, ItemCount, Job, Limits, Name, Partitions, SliceLength, rules_of, slice_at}, LimitLaws.{PartsMakeAnIdentity, RaisedJobsStayWhole, RaisedLimitsPass, RaisedLimitsPassAll}, Passing.{RangesPass, SlicePasses}}
 
 pub still-few : (before after : Option ℕ) (n : ℕ) → IsRaised before after → MatchOption before ⊤ (λ l. n ≤ l) → MatchOption after ⊤ (λ l. n ≤ l)
 still-few before None n raised few = tt
@@ -39,8 +36,8 @@ pub slice : (job : Job) (before after : Limits) (f : Function) (items : List (Li
     → SlicePasses job before f items → SlicePasses job after f items
 slice job before after f items raised p = ranges job before after f 0 items (even_ranges (length items) job.partitions) raised p
 
-pub pass-all : RaisedLimitsPassAll
-pass-all job before after f items raised p = record {
+pub pass_all : RaisedLimitsPassAll
+pass_all job before after f items raised p = record {
   each = λ k. slice job before after f (slice_at job items k) raised (p.each k);
   few = still-few before.job_skips after.job_skips (length (fault_classes f items)) raised.job_skips p.few;
 }

@@ -1,18 +1,13 @@
 -- Slice after slice.
-use Rattle.std.proofs.Common.{◌≡◌, ℕ, zero, suc, ◌+◌, ◌-◌, ◌*◌, ◌<◌, ◌≤◌, List, [], ◌∷◌, ◌++◌, length, take, drop, refl, ap, sym, ◌∙◌, arith, length-drop}
-use Rattle.std.proofs.lemmas.List.{length-take}
+use Rattle.std.proofs.Common.{◌≡◌, ℕ, suc, ◌+◌, ◌*◌, ◌<◌, ◌≤◌, List, [], ◌++◌, length, take, drop, ap, sym, ◌∙◌, arith, length-drop}
+use Rattle.std.{proofs.lemmas.List.{drop_all, length-take, take_all, take-append-drop}, proofs.lemmas.Nat.mul-le}
 use Rattle.jb_slices.specs.Job.{IsLastSlice, Job, first_of, slice_at}
-use Rattle.jb_slices.proofs.Lists.{all-taken, drop-drop, drop-front, drop-nil, short-end, take-less, take-nil}
+use Rattle.jb_slices.proofs.Lists.{drop-front, take-less}
 
 -- ---- numbers
 
 pub times-less : (a b n : ℕ) → a ≤ b → a * n ≤ b * n
-times-less a b n less =
-    let d = b - a in
-    let e : b ≡ a + d = omega (arith, less) in
-    let sum : (a + d) * n ≡ a * n + d * n = omega arith in
-    let same : b * n ≡ (a + d) * n = ap (λ (k : ℕ). k * n) e in
-    omega (arith, sum, same)
+times-less a b n less = mul-le a n b n less (omega arith)
 
 pub next-first : (job : Job) (k : ℕ) → first_of job k + job.slice_length ≡ first_of job (suc k)
 next-first job k = omega arith
@@ -20,10 +15,8 @@ next-first job k = omega arith
 -- ---- lists
 
 pub take-more : {A : Type 0} → (a b c : ℕ) (xs : List A) → a + b ≡ c → take a xs ++ take b (drop a xs) ≡ take c xs
-take-more zero b c xs e = let same : b ≡ c = omega (arith, e) in ap (λ n. take n xs) same
-take-more (suc a) b zero xs e = absurd (omega (arith, e))
-take-more (suc a) b (suc c) [] e = take-nil b [] refl
-take-more (suc a) b (suc c) (x ∷ xs) e = ap (λ ys. x ∷ ys) (take-more a b c xs (omega (arith, e)))
+take-more a b c xs e =
+    ap (λ ys. ys ++ take b (drop a xs)) (sym (take-less a c xs (omega (arith, e)))) ∙ ap (λ ys. take a (take c xs) ++ ys) (sym (drop-front a b c xs e)) ∙ take-append-drop a (take c xs)
 
 -- the items of the first slices, and those of the next one
 pub one-slice-more : (job : Job) (items : List (List ℕ)) (k : ℕ) → take (first_of job k) items ++ slice_at job items k ≡ take (first_of job (suc k)) items
@@ -37,22 +30,6 @@ the-slice job items k = drop-front (first_of job k) job.slice_length (first_of j
 
 -- ---- the last one
 
-none-after : (job : Job) (items : List (List ℕ)) (last : ℕ) → IsLastSlice job items last → drop (first_of job (suc last)) items ≡ []
-none-after job items last is =
-    sym (drop-drop (first_of job last) job.slice_length (first_of job (suc last)) items (next-first job last))
-    ∙ short-end job.slice_length (drop (first_of job last) items) is.shorter
-
-pub all-of-them : (job : Job) (items : List (List ℕ)) (last : ℕ) → IsLastSlice job items last → take (first_of job (suc last)) items ≡ items
-all-of-them job items last is = all-taken (first_of job (suc last)) items (none-after job items last is)
-
-pub empty-after : (job : Job) (items : List (List ℕ)) (last k : ℕ) → IsLastSlice job items last → last < k → slice_at job items k ≡ []
-empty-after job items last k is later =
-    let d = first_of job k - first_of job (suc last) in
-    let less = times-less (suc last) k job.slice_length (omega (arith, later)) in
-    let e : first_of job (suc last) + d ≡ first_of job k = omega (arith, less) in
-    take-nil job.slice_length (drop (first_of job k) items)
-    (sym (drop-drop (first_of job (suc last)) d (first_of job k) items e) ∙ drop-nil d (drop (first_of job (suc last)) items) (none-after job items last is))
-
 pub within-last : (job : Job) (items : List (List ℕ)) (last : ℕ) → IsLastSlice job items last → length items < first_of job (suc last)
 within-last job items last is =
     let short = is.shorter in
@@ -61,3 +38,13 @@ within-last job items last is =
     let d = length-drop (first_of job last) items in
     let n = next-first job last in
     omega (arith, short, has, e, d, n)
+
+pub all-of-them : (job : Job) (items : List (List ℕ)) (last : ℕ) → IsLastSlice job items last → take (first_of job (suc last)) items ≡ items
+all-of-them job items last is = let within = within-last job items last is in take_all (first_of job (suc last)) items (omega (arith, within))
+
+pub empty-after : (job : Job) (items : List (List ℕ)) (last k : ℕ) → IsLastSlice job items last → last < k → slice_at job items k ≡ []
+empty-after job items last k is later =
+    let n = job.slice_length in
+    let less = times-less (suc last) k n (omega (arith, later)) in
+    let within = within-last job items last is in
+    ap (take n) (drop_all (first_of job k) items (omega (arith, less, within))) ∙ take_all n [] (omega arith)

@@ -1,9 +1,6 @@
 -- Whose checkpoints they are.
 use Rattle.std.proofs.Common.{◌≡◌, refl, ap, sym, ◌∙◌}
-use Rattle.jb_slices.specs.Checkpoint.{Begins, GoesOn, Header, header_of}
-use Rattle.jb_slices.specs.Job.{Classes, HaveInCommon, IdentityPart, ItemCount, Job, Name, Partitions, SliceLength}
-use Rattle.jb_slices.specs.Refusals.{OwnSlicesArentRefused}
-use Rattle.jb_slices.specs.SliceLaws.{FirstIsHeader, HeadersIdentifySlices}
+use Rattle.jb_slices.specs.{Checkpoint.{Begins, GoesOn, Header, header_of}, Job.{Classes, HaveInCommon, IdentityPart, ItemCount, Job, Name, Partitions, SliceLength}, Refusals.OwnSlicesArentRefused, SliceLaws.{FirstIsHeader, HeadersIdentifySlices}}
 
 pub headers : FirstIsHeader
 headers job functions number items (Begins header) cs so-far = (header, refl, so-far.0.header_is)

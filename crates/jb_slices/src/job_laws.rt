@@ -23,11 +23,13 @@ pub fn jobs_follow_the_rules()
 {}
 
 /// A change to one slice's list leaves the lists of the others.
+#[tactic(auto, using(crate::proofs::Apart::apart))]
 pub fn slices_are_apart()
     ensures { SlicesAreApart }
 {}
 
 /// Items of slices that haven't started may change.
+#[tactic(auto, using(crate::proofs::Apart::agreed))]
 pub fn later_items_dont_matter()
     ensures { LaterItemsDontMatter }
 {}

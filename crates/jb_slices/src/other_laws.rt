@@ -13,6 +13,7 @@ pub fn raised_limits_keep()
 {}
 
 /// Jobs that have each part of their identity in common are one.
+#[tactic(auto, using(crate::proofs::Raising::identity))]
 pub fn identities_have_parts()
     ensures { PartsMakeAnIdentity }
 {}
@@ -25,6 +26,7 @@ pub fn parts_cover()
 {}
 
 /// What becomes of faults one by one is what the rules let pass of them all.
+#[tactic(auto, using(crate::proofs::Deciding::skips, crate::proofs::Deciding::fails, crate::proofs::Deciding::ends))]
 pub fn choices_are_the_rules()
     ensures skip { SkipsPass }
     ensures fail { FailsDont }
@@ -32,6 +34,7 @@ pub fn choices_are_the_rules()
 {}
 
 /// Such checkpoints exist: those of a whole job, of a failed one, and of one that continues though a slice failed.
+#[tactic(auto, using(crate::proofs::Examples::some_whole, crate::proofs::Examples::some_fail, crate::proofs::Examples::some_so_far))]
 pub fn some_are_there()
     ensures whole { SomeAreWhole }
     ensures failed { SomeFail }

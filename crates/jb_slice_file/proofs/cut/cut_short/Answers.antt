@@ -1,18 +1,13 @@
 use Rattle.std.proofs.Common.{◌≡◌, ◌&&◌, false, refl, subst, subst₂, ◌∙◌, IsTrue, sym, true≢false}
-use Rattle.sqlite_wal.specs.Files.{outcomes}
-use Rattle.sqlite_wal.specs.Reads.{AreClean}
-use Rattle.sqlite.specs.Closing.{files_left}
-use Rattle.jb_slice_file.specs.RecordingDisk.{disk_of}
+use Rattle.sqlite_wal.{specs.Files.outcomes, specs.Reads.AreClean, specs.Recovery.Image}
+use Rattle.sqlite.{specs.Closing.files_left, specs.declared.file.Leftover.Leftover, specs.Files.IsCleanLeft}
+use Rattle.jb_slice_file.specs.{RecordingDisk.disk_of, Files.{LeavesImage, has_store}}
 use Rattle.sqlite_disk.specs.declared.Disk.{Ghosts}
-use Rattle.sqlite_wal.specs.Recovery.{Image}
 use Rattle.sqlite_pool.proofs.StateLemmas.{clean_is, may_leave_is}
-use Rattle.sqlite.specs.declared.file.Leftover.{Leftover}
-use Rattle.sqlite.specs.Files.{IsCleanLeft}
 use Rattle.sqlite_store.specs.declared.store.FileStore.{FileStore}
-use Rattle.jb_slice_file.specs.Files.{LeavesImage, has_store}
+use Rattle.jb_slice_file.proofs.cut.cut_short.Goals.{After-crash, in-Store, in_default}
 use Rattle.sqlite.specs.declared.file.Leftover.TheVariants as left
 use Rattle.jb_slice_file.proofs.cut.cut_short.Goals as goal
-use Rattle.jb_slice_file.proofs.cut.cut_short.Goals.{After-crash, in-Store, in_default}
 
 clean_left : {D : Type 0} {g : Ghosts D} (rest : Leftover D g) → AreClean g (files_left rest).0 (files_left rest).1 → IsCleanLeft rest
 clean_left (left.Files now) clean = clean

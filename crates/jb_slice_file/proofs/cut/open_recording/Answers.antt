@@ -1,17 +1,10 @@
 use Rattle.std.proofs.Common.{◌≡◌, ◌⊎◌, ◌∙◌, ℕ, Bool, List, IsTrue, true, false, refl, sym, subst, subst₂, true≢false}
-use Rattle.std.proofs.Math.Logic.{∥∥₁_elim}
-use Rattle.std.proofs.lemmas.Bool.{and_from}
-use Rattle.sqlite_wal.specs.Files.{outcomes}
-use Rattle.sqlite_wal.specs.Recovery.{Image}
-use Rattle.sqlite.specs.Effect.{Database}
-use Rattle.sqlite.specs.Files.{file_state, image_of}
-use Rattle.jb_slice_file.specs.TableSchema.{checkpoint_schema, no_schema}
-use Rattle.jb_slice_file.specs.Files.{HasRunCheckpoints, Leaves, MayGoOn, has_store}
-use Rattle.jb_slice_file.specs.RecordingDisk.{disk_of}
-use Rattle.jb_slice_file.proofs.Opens.{cut_goes_on, cut_may_go_on, cut_run, found_run}
-use Rattle.jb_slice_file.proofs.Somes.{some_both, some_from}
+use Rattle.std.{proofs.Math.Logic.∥∥₁_elim, proofs.lemmas.Bool.and_from}
+use Rattle.sqlite_wal.{specs.Files.outcomes, specs.Recovery.Image}
+use Rattle.sqlite.{specs.Effect.Database, specs.Files.{file_state, image_of}}
+use Rattle.jb_slice_file.specs.{TableSchema.{checkpoint_schema, no_schema}, Files.{HasRunCheckpoints, Leaves, MayGoOn, has_store}, RecordingDisk.disk_of}
+use Rattle.jb_slice_file.proofs.{Opens.{cut_goes_on, cut_may_go_on, cut_run, found_run}, Somes.{some_both, some_from}, cut.open_recording.Goals.After-cut_short}
 use Rattle.jb_slice_file.proofs.cut.open_recording.Goals as goal
-use Rattle.jb_slice_file.proofs.cut.open_recording.Goals.{After-cut_short}
 
 pub returns-in-Ok-clause-found : goal.returns-in-Ok-clause-found
 returns-in-Ok-clause-found g c clean leaves =

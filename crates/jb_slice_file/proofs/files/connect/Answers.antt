@@ -1,7 +1,6 @@
 use Rattle.sqlite_wal.specs.Files.{image_at}
 use Rattle.sqlite.specs.Files.{file_state}
-use Rattle.jb_slice_file.proofs.Opened.{shows_found}
-use Rattle.jb_slice_file.proofs.Opens.{shows_none}
+use Rattle.jb_slice_file.proofs.{Opened.shows_found, Opens.shows_none}
 use Rattle.jb_slice_file.proofs.files.connect.Goals as goal
 
 pub returns-in-Ok-clause-found : goal.returns-in-Ok-clause-found

@@ -1,8 +1,7 @@
 use Rattle.std.proofs.Common.{[]}
 use Rattle.std.proofs.lemmas.Result.{IfOk-weaker}
 use Rattle.sqlite.specs.Files.{file_state, image_of}
-use Rattle.jb_slice_file.proofs.Opened.{shows_found}
-use Rattle.jb_slice_file.proofs.Opens.{shows_none}
+use Rattle.jb_slice_file.proofs.{Opened.shows_found, Opens.shows_none}
 use Rattle.jb_slice_file.proofs.files.open_files.Goals as goal
 
 pub returns-in-Ok : goal.returns-in-Ok

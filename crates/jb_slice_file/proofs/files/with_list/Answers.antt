@@ -1,6 +1,5 @@
 use Rattle.std.proofs.Common.{arith}
-use Rattle.sqlite.specs.Files.{file_state}
-use Rattle.sqlite.specs.State.{HasCleanDisk}
+use Rattle.sqlite.{specs.Files.file_state, specs.State.HasCleanDisk}
 use Rattle.jb_slice_file.proofs.files.with_list.Goals as goal
 
 pub returns-in-Ok-clause-taken : goal.returns-in-Ok-clause-taken

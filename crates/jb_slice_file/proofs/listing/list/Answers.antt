@@ -1,22 +1,8 @@
 use Rattle.std.proofs.Common.{ℕ, ◌≡◌, ◌⊎◌, inl, inr, IfOk, List, [], length, map, sym, subst, ◌∙◌}
-use Rattle.std.proofs.lemmas.Result.{IfErr-at_err, IfErr-weaker, IfOk-weaker}
-use Rattle.std.specs.List.{AllByRecursion}
-use Rattle.sqlite.specs.Held.{state}
-use Rattle.sqlite.specs.State.{HasCleanDisk, Shown, State}
-use Rattle.jb_slice_file.specs.CheckpointBytes.{CheckpointBytes, checkpoint_bytes}
-use Rattle.jb_slice_file.specs.Chain.{chained}
-use Rattle.jb_slice_file.specs.Rows.{HoldsList, shown_from}
-use Rattle.sqlite.specs.declared.error.Error.{Error}
-use Rattle.jb_slice_file.specs.declared.error.StoreError.{StoreError}
-use Rattle.jb_slice_file.specs.declared.error.StoreError.TheVariants.{Altered, Gap, Memory, Sql}
-use Rattle.jb_slice_file.specs.Errors.{IsListFault, IsStoreFault}
-use Rattle.jb_slice_file.specs.TableSchema.{checkpoint_schema}
-use Rattle.jb_slice_file.proofs.Failing.{not_read}
-use Rattle.jb_slice_file.proofs.Read.{altered_back, lists, lists_back, never_listed, survives, unchanged, wide}
-use Rattle.jb_slice_file.proofs.Texts.{select_text}
-use Rattle.jb_slice_file.proofs.Handed.{each_err, handed_on, on_ok}
-use Rattle.jb_slice_file.proofs.Columns.{shown_once}
-use Rattle.jb_slice_file.proofs.Opened.{keeps_read}
+use Rattle.std.{proofs.lemmas.Result.{IfErr-at_err, IfErr-weaker, IfOk-weaker}, specs.List.AllByRecursion}
+use Rattle.sqlite.{specs.Held.state, specs.State.{HasCleanDisk, Shown, State}, specs.declared.error.Error.Error}
+use Rattle.jb_slice_file.specs.{CheckpointBytes.{CheckpointBytes, checkpoint_bytes}, Chain.chained, Rows.{HoldsList, shown_from}, declared.error.StoreError.StoreError, declared.error.StoreError.TheVariants.{Altered, Gap, Memory, Sql}, Errors.{IsListFault, IsStoreFault}, TableSchema.checkpoint_schema}
+use Rattle.jb_slice_file.proofs.{Failing.not_read, Read.{altered_back, lists, lists_back, never_listed, survives, unchanged, wide}, Texts.select_text, Handed.{each_err, handed_on, on_ok}, Columns.shown_once, Opened.keeps_read}
 use Rattle.jb_slice_file.proofs.listing.list.Goals as goal
 
 unlisted : (old new : State) (e : StoreError) → (e ≡ Gap) ⊎ (((number : ℕ) × (e ≡ Altered number)) ⊎ ((e ≡ Memory) ⊎ ((why : Error) × (e ≡ Sql why)))) → IsListFault old new e

@@ -1,8 +1,6 @@
 use Rattle.std.proofs.Common.{◌≡◌, ◌++◌, map}
 use Rattle.std.specs.Vec.Iter.{into_iter_items}
-use Rattle.jb_slice_file.specs.CheckpointBytes.{checkpoint_bytes}
-use Rattle.jb_slice_file.specs.Chain.{chained, last_link}
-use Rattle.jb_slice_file.specs.Numbered.{numbered, numbered_from}
+use Rattle.jb_slice_file.specs.{CheckpointBytes.checkpoint_bytes, Chain.{chained, last_link}, Numbered.{numbered, numbered_from}}
 use Rattle.jb_slice_file.proofs.numbered.in_order.Given as goal
 
 -- those so far are the first ones, and those to come stand behind them

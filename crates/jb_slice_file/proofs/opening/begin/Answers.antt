@@ -1,34 +1,18 @@
-use Rattle.std.proofs.Common.{◌≡◌, ◌⊎◌, ◌≤◌, ℕ, inl, inr, true≢false, List, [], map, refl, sym, ap, subst, ◌∙◌, arith, le_refl, le_trans, None, Option, Some, Result, Err, IsTrue}
-use Rattle.std.proofs.lemmas.Result.{IfErr-at_err, IfOk-at_ok, err_from_is_err_and}
-use Rattle.sqlite.specs.Held.{state}
-use Rattle.sqlite.specs.State.{State, HasCleanDisk}
-use Rattle.sqlite.specs.Tree.{Trees}
-use Rattle.sqlite.specs.Schema.{Schema}
+use Rattle.std.proofs.Common.{◌≡◌, ◌↔◌, ◌⊎◌, ℕ, inl, inr, true≢false, List, [], map, refl, sym, ap, subst, ◌∙◌, arith, le_refl, le_trans, None, Option, Some, Result, Err, IsTrue}
+use Rattle.std.{proofs.lemmas.Option.{none-some, same_Some}, proofs.lemmas.Result.{IfErr-at_err, IfOk-at_ok, err_from_is_err_and}}
+use Rattle.sqlite.{specs.Held.state, specs.State.{State, HasCleanDisk}, specs.Tree.Trees, specs.Schema.Schema}
 use Rattle.sqlite_catalog.specs.Listing.{IsSound}
-use Rattle.sqlite_disk.specs.Disk.{MoreFaults}
-use Rattle.jb_slice_file.specs.declared.error.StoreError.{StoreError}
-use Rattle.jb_slice_file.specs.declared.error.StoreError.TheVariants.{Altered, Foreign, Version, Gap}
-use Rattle.jb_slice_file.specs.Errors.{IsOpenCause}
-use Rattle.jb_slice_file.specs.TableSchema.{IsForeign, IsOtherVersion, checkpoint_schema, no_schema}
-use Rattle.jb_slice_file.specs.CheckpointBytes.{CheckpointBytes, checkpoint_bytes}
-use Rattle.jb_slice_file.specs.Chain.{chained}
-use Rattle.jb_slice_file.specs.Rows.{AreIn, HasGap, HoldsList, IsAltered, StandsFor}
-use Rattle.jb_slice_file.specs.Connections.{IsAsItWas, IsJustOpened, Keeps}
-use Rattle.jb_slice_file.proofs.Opened.{is_left, is_sound, keeps_found, apart, shows_now, has_left}
-use Rattle.jb_slice_file.proofs.Clean.{clean_before}
-use Rattle.jb_slice_file.proofs.Failing.{later_fault}
-use Rattle.jb_slice_file.proofs.Handed.{each_err, each_ok}
+use Rattle.jb_slice_file.specs.{declared.error.StoreError.StoreError, declared.error.StoreError.TheVariants.{Altered, Foreign, Version, Gap}, Errors.IsOpenCause, TableSchema.{IsForeign, IsOtherVersion, checkpoint_schema, no_schema}, CheckpointBytes.{CheckpointBytes, checkpoint_bytes}, Chain.chained, Rows.{AreIn, HasGap, HoldsList, IsAltered, StandsFor}, Connections.{IsAsItWas, IsJustOpened, Keeps}}
+use Rattle.jb_slice_file.proofs.{Opened.{is_left, is_sound, keeps_found, apart, shows_now, has_left}, Clean.clean_before, Failing.later_fault, Handed.{each_err, each_ok}}
 use Rattle.jb_slice_file.proofs.opening.begin.Goals as goal
 
--- a database that isn't refused isn't of the kind that is
-unnamed : (P : Schema → Type 0) (found : Option StoreError) (e : StoreError) (read now : Schema) → found ≡ None → read ≡ now → (P read → found ≡ Some e) → P now → ⊥
-unnamed P found e read now none same named holds = let some = named (subst P (sym same) holds) in cc
+-- a database that isn't refused isn't of the kind that is, and no such refusal is answered
+never : {T : Type 0} (P : Schema → Type 0) (found : Option StoreError) (e : StoreError) (read now : Schema) (r : Result T StoreError) → found ≡ None → read ≡ now → (P read → found ≡ Some e) → (r ≡ Err e → ⊥)
+    → (r ≡ Err e) ↔ P now
+never P found e read now r none same named other = ((λ is. absurd (other is)), (λ holds. let some = named (subst P (sym same) holds) in absurd cc))
 
 error_is : {T : Type 0} {e x : StoreError} → ◌≡◌ {A = Result T StoreError} (Err e) (Err x) → e ≡ x
 error_is same = cc
-
-more_before : (old mid new : ℕ) → old ≤ mid → MoreFaults mid new → MoreFaults old new
-more_before old mid new counts more = omega arith
 
 -- ---- the list is taken
 
@@ -114,14 +98,8 @@ returns g c = record {
     | inr ours ↦ elim shows [ inl it ↦ IfOk-at_ok _ is (c.list.ensures.rows clean all (holds g c ours all it.rows)) | inr blank ↦ absurd (apart (sym ours ∙ blank.0)) ]
   ]);
   end = c.list.ensures.end;
-  foreign = (
-    (λ is. absurd ((IfErr-at_err _ is c.list.ensures.named).0 refl)),
-    (λ foreign. absurd (unnamed IsForeign _ Foreign _ _ c.in_default.is c.schema.ensures.value c.refusal_of.ensures.foreign.1 foreign)),
-  );
-  version = (
-    (λ is. absurd ((IfErr-at_err _ is c.list.ensures.named).1 refl)),
-    (λ other. absurd (unnamed IsOtherVersion _ Version _ _ c.in_default.is c.schema.ensures.value c.refusal_of.ensures.version.1 other)),
-  );
+  foreign = never IsForeign _ Foreign _ _ c.list.result c.in_default.is c.schema.ensures.value c.refusal_of.ensures.foreign.1 (λ is. (IfErr-at_err _ is c.list.ensures.named).0 refl);
+  version = never IsOtherVersion _ Version _ _ c.list.result c.in_default.is c.schema.ensures.value c.refusal_of.ensures.version.1 (λ is. (IfErr-at_err _ is c.list.ensures.named).1 refl);
   gap = gap g c;
   altered = altered g c;
   cause = λ clean opened. each_err c.list.result _ (λ e is.
@@ -146,7 +124,7 @@ returns g c = record {
       ]);
   counts = le_trans c.make.ensures.counts c.list.ensures.counts;
   shut = λ clean was. elim (c.make.ensures.shut (early g c clean) was) [
-    | inl is_open ↦ elim (c.list.ensures.shut clean is_open) [ inl now ↦ inl now | inr more ↦ inr (more_before _ _ _ c.make.ensures.counts more) ]
+    | inl is_open ↦ elim (c.list.ensures.shut clean is_open) [ inl now ↦ inl now | inr more ↦ inr (let counts = c.make.ensures.counts in omega (arith, counts, more)) ]
     | inr more ↦ inr (le_trans more c.list.ensures.counts)
   ];
   untouched = λ clean opened. each_err c.list.result _ (λ e is its.
@@ -173,12 +151,6 @@ refused e (inl none) = absurd cc
 refused e (inr (inl foreign)) = inl cc
 refused e (inr (inr version)) = inr cc
 
-not_none : (e : StoreError) → Some e ≡ None → ⊥
-not_none e none = cc
-
-some_is : (e x : StoreError) → Some e ≡ Some x → e ≡ x
-some_is e x same = cc
-
 module _ (g : _) (c : goal.In-Some g) where
   abbrev found : State
   found = state g.S.Store c.args.conn.now
@@ -199,13 +171,13 @@ returns-in-Some g c =
       shown = shows_now (found g c);
       listed = λ clean opened all shows. tt;
       end = tt;
-      foreign = ((λ is. cause Foreign (error_is is)), (λ foreign. ap (λ e. Err e) (some_is _ _ (c.in-Some.ensures.foreign.1 (subst IsForeign (sym c.schema.ensures.value) foreign)))));
-      version = ((λ is. cause Version (error_is is)), (λ other. ap (λ e. Err e) (some_is _ _ (c.in-Some.ensures.version.1 (subst IsOtherVersion (sym c.schema.ensures.value) other)))));
+      foreign = ((λ is. cause Foreign (error_is is)), (λ foreign. ap (λ e. Err e) (same_Some _ _ (c.in-Some.ensures.foreign.1 (subst IsForeign (sym c.schema.ensures.value) foreign)))));
+      version = ((λ is. cause Version (error_is is)), (λ other. ap (λ e. Err e) (same_Some _ _ (c.in-Some.ensures.version.1 (subst IsOtherVersion (sym c.schema.ensures.value) other)))));
       gap = λ clean opened is. cause Gap (error_is is);
       altered = λ clean opened number is. cause (Altered number) (error_is is);
       cause = λ clean opened. known g c;
-      own = λ clean opened all shows its. not_none c.in-Some.refusal (c.in-Some.ensures.fits.1
-          (subst (λ x. (x ≡ no_schema) ⊎ (x ≡ checkpoint_schema)) (sym c.schema.ensures.value) (elim shows [ inl holds ↦ inr holds.schema | inr blank ↦ inl blank.0 ])));
+      own = λ clean opened all shows its. none-some c.in-Some.refusal (sym (c.in-Some.ensures.fits.1
+          (subst (λ x. (x ≡ no_schema) ⊎ (x ≡ checkpoint_schema)) (sym c.schema.ensures.value) (elim shows [ inl holds ↦ inr holds.schema | inr blank ↦ inl blank.0 ]))));
       counts = le_refl _;
       shut = λ clean was. inl was;
       untouched = λ clean opened its. record { now = refl; leaves = as_found g c opened };
@@ -238,14 +210,8 @@ returns-in_err-make g c =
       shown = shows_now (was g c);
       listed = λ clean opened all shows. tt;
       end = tt;
-      foreign = (
-        (λ is. absurd (its (inl (error_is is)))),
-        (λ foreign. absurd (unnamed IsForeign _ Foreign _ _ c.in_default.is c.schema.ensures.value c.refusal_of.ensures.foreign.1 foreign)),
-      );
-      version = (
-        (λ is. absurd (its (inr (inl (error_is is))))),
-        (λ old. absurd (unnamed IsOtherVersion _ Version _ _ c.in_default.is c.schema.ensures.value c.refusal_of.ensures.version.1 old)),
-      );
+      foreign = never IsForeign _ Foreign _ _ _ c.in_default.is c.schema.ensures.value c.refusal_of.ensures.foreign.1 (λ is. its (inl (error_is is)));
+      version = never IsOtherVersion _ Version _ _ _ c.in_default.is c.schema.ensures.value c.refusal_of.ensures.version.1 (λ is. its (inr (inl (error_is is))));
       gap = λ clean opened is. absurd (its (inr (inr (inl (error_is is)))));
       altered = λ clean opened number is. absurd (its (inr (inr (inr (number, error_is is)))));
       cause = λ clean opened.

@@ -1,7 +1,6 @@
 use Rattle.std.proofs.Common.{◌≡◌, length, map, ap, sym, ◌∙◌, subst}
 use Rattle.sqlite_trees.proofs.ListLemmas.{all-get_or}
-use Rattle.jb_slice_file.specs.Numbered.{numbered}
-use Rattle.jb_slice_file.specs.Rows.{columns_of}
+use Rattle.jb_slice_file.specs.{Numbered.numbered, Rows.columns_of}
 use Rattle.jb_slice_file.proofs.Columns.{push_row}
 use Rattle.jb_slice_file.proofs.reading.all_found.Goals as goal
 

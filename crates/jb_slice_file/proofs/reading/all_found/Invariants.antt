@@ -1,7 +1,6 @@
 use Rattle.std.proofs.Common.{◌≡◌, length, map, take}
 use Rattle.std.specs.List.{AllByRecursion}
-use Rattle.jb_slice_file.specs.Numbered.{numbered}
-use Rattle.jb_slice_file.specs.Rows.{columns_of}
+use Rattle.jb_slice_file.specs.{Numbered.numbered, Rows.columns_of}
 use Rattle.jb_slice_file.proofs.reading.all_found.Given as goal
 
 -- so many rows have been read

@@ -1,10 +1,6 @@
 use Rattle.std.proofs.Common.{◌≡◌, inl, inr, ap, sym, ◌∙◌, map, length, subst}
-use Rattle.std.proofs.lemmas.Result.{IfErr-weaker, IfOk-weaker}
-use Rattle.std.specs.List.{AllByRecursion}
-use Rattle.jb_slice_file.specs.Chain.{chained}
-use Rattle.jb_slice_file.specs.CheckpointBytes.{checkpoint_bytes}
-use Rattle.jb_slice_file.specs.Numbered.{numbered}
-use Rattle.jb_slice_file.specs.Rows.{columns_of}
+use Rattle.std.{proofs.lemmas.Result.{IfErr-weaker, IfOk-weaker}, specs.List.AllByRecursion}
+use Rattle.jb_slice_file.specs.{Chain.chained, CheckpointBytes.checkpoint_bytes, Numbered.numbered, Rows.columns_of}
 use Rattle.jb_slice_file.proofs.Columns.{are_wide, rows_of_list, rows_once}
 use Rattle.jb_slice_file.proofs.reading.checkpoints_of.Goals as goal
 

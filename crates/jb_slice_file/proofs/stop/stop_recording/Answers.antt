@@ -1,12 +1,10 @@
 use Rattle.std.proofs.Common.{refl, subst₂}
 use Rattle.std.proofs.Math.Logic.{∥∥₁_map}
-use Rattle.sqlite_wal.specs.Files.{outcomes}
-use Rattle.sqlite_wal.specs.Reads.{AreClean}
+use Rattle.sqlite_wal.{specs.Files.outcomes, specs.Reads.AreClean}
 use Rattle.sqlite_trees.specs.Tree.{Trees}
-use Rattle.jb_slice_file.specs.Files.{HoldsWhole, HasRunCheckpoints}
-use Rattle.jb_slice_file.specs.RecordingDisk.{disk_of}
-use Rattle.jb_slice_file.proofs.stop.stop_recording.Goals as goal
+use Rattle.jb_slice_file.specs.{Files.{HoldsWhole, HasRunCheckpoints}, RecordingDisk.disk_of}
 use Rattle.jb_slice_file.proofs.stop.stop_recording.Goals.{After-crash}
+use Rattle.jb_slice_file.proofs.stop.stop_recording.Goals as goal
 
 -- the disks were clean that were watched
 was_clean : (g : _) (c : After-crash g) → AreClean g.D.Disk c.crash.result.log c.crash.result.db → AreClean g.D.Disk (disk_of c.closed.result.log) (disk_of c.closed.result.db)
