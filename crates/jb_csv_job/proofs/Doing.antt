@@ -1,35 +1,18 @@
 -- The slices that are done, with one more.
-use Rattle.std.proofs.Common.{◌≡◌, ◌∙◌, ℕ, suc, ◌+◌, ◌<◌, ◌≤◌, ◌++◌, List, Bool, true, false, Option, None, Some, ap, arith, length, length-append, refl, subst, sym, ◌⊎◌, inl, inr}
-use Rattle.std.specs.Prelude.{MatchOption, ⊤}
-use Rattle.std.proofs.lemmas.List.{length-map}
+use Rattle.std.proofs.Common.{◌≡◌, ◌∙◌, ℕ, suc, ◌+◌, ◌<◌, ◌≤◌, ◌++◌, List, Bool, true, false, Option, None, Some, ap, arith, length, length-append, subst, sym, ◌⊎◌, inl, inr}
+use Rattle.std.{specs.Prelude.{MatchOption, ⊤}, proofs.lemmas.Bool.{both_ways, cases_Bool}, proofs.lemmas.List.{length-map}}
 use Rattle.jb_collect.specs.declared.calls.Status.TheVariants.{Completed, Failed}
 use Rattle.jb_mapper.specs.EvenCover.{even_ranges}
 use Rattle.jb_records.specs.PartitionResults.{joined}
-use Rattle.jb_slice_run.specs.declared.durable.end.SliceEnd.{SliceEnd}
-use Rattle.jb_slice_run.specs.Held.{fault_in}
-use Rattle.jb_slices.specs.Function.{Fault, all_results, fault_classes}
-use Rattle.jb_slices.specs.Job.{HasSlice, IsLastSlice, first_of, rules_of, slice_at}
-use Rattle.jb_slices.specs.Passing.{SlicePasses}
-use Rattle.jb_slices.proofs.Faults.{classes-append, faults-count}
-use Rattle.jb_slices.proofs.Passing.{order, ranges-none}
-use Rattle.jb_slices.proofs.Seams.{all-of-them, empty-after}
-use Rattle.jb_csv_job.specs.Job.{JobRecord}
-use Rattle.jb_csv_job.specs.Loop.{AreDone, AreGood, front_of}
-use Rattle.jb_csv_job.specs.Slices.{IsSliceEnd}
-use Rattle.jb_csv_job.specs.Tasks.{TaskPasses, given_by, is_own, own_items, task_items}
-use Rattle.jb_csv_job.specs.declared.tally.Tally.{Tally}
+use Rattle.jb_slice_run.specs.{declared.durable.end.SliceEnd.{SliceEnd}, Held.{fault_in}}
+use Rattle.jb_slices.specs.{Function.{Fault, all_results, fault_classes}, Job.{HasSlice, IsLastSlice, first_of, rules_of, slice_at}, Passing.{SlicePasses}}
+use Rattle.jb_slices.proofs.{Faults.{classes-append, faults-count}, Passing.{order, ranges-none}, Seams.{all-of-them, empty-after}}
+use Rattle.jb_csv_job.specs.{Job.{JobRecord}, Loop.{AreDone, AreGood, front_of}, Slices.{IsSliceEnd}, Tasks.{TaskPasses, given_by, is_own, own_items, task_items}, declared.tally.Tally.{Tally}}
 use Rattle.jb_csv_job.proofs.Owning.{fewer, given-more, given-same, own-more, own-passes, own-same, passes, task-own}
 
 -- nothing is both
-neither : (b : Bool) → b ≡ true → b ≡ false → ⊥
-neither b is isnt = cc
-
 pub yes-or-no : {A : Type 0} → (b : Bool) → b ≡ true → b ≡ false → A
-yes-or-no b is isnt = absurd (neither b is isnt)
-
-by-cases : {A : Type 0} → (b : Bool) → (b ≡ true → A) → (b ≡ false → A) → A
-by-cases true f g = f refl
-by-cases false f g = g refl
+yes-or-no b is isnt = absurd (both_ways b isnt is)
 
 over : (limit : Option ℕ) (most m n : ℕ) → limit ≡ Some most → most < m → m ≤ n → MatchOption limit ⊤ (λ l. n ≤ l) → ⊥
 over None most m n is less more few = cc is
@@ -60,7 +43,7 @@ module _ (job : JobRecord) (items : List (List ℕ)) (number : ℕ) (old new : T
           passed = λ k less own. elim (order k number) [
             | inl low ↦ g.passed k low own
             | inr more ↦ elim more [
-              | inl same ↦ absurd (neither (is_own job.task number) (subst (λ n. is_own job.task n ≡ true) same own) other)
+              | inl same ↦ yes-or-no (is_own job.task number) (subst (λ n. is_own job.task n ≡ true) same own) other
               | inr high ↦ absurd (omega (arith, less, high))
             ]
           ];
@@ -110,14 +93,14 @@ module _ (job : JobRecord) (items : List (List ℕ)) (number : ℕ) (old new : T
             skips = skips ∙ counts completed g;
             few = few;
           };
-          bad = λ is. absurd (neither new.is_failed is still);
+          bad = λ is. yes-or-no new.is_failed is still;
         }
 
     -- it failed, or one before it
     pub kept-back : new.is_failed ≡ true → (old.is_failed ≡ true) ⊎ (end.status ≡ Failed) → AreDone job items (suc number) new taken
     kept-back failed why = record {
       front = done.front;
-      good = λ fine. absurd (neither new.is_failed failed fine);
+      good = λ fine. yes-or-no new.is_failed failed fine;
       bad = λ _ pass. elim why [
         | inl before ↦ done.bad before pass
         | inr here ↦ ends.fails here ((own-passes job items pass).each number own)
@@ -129,13 +112,16 @@ module _ (job : JobRecord) (items : List (List ℕ)) (number : ℕ) (old new : T
         → (most : ℕ) → job.limits.job_skips ≡ Some most → most < old.skips + length end.skips.items → AreDone job items (suc number) new taken
     ended-by some has failed completed most is more = record {
       front = done.front;
-      good = λ fine. absurd (neither new.is_failed failed fine);
-      bad = λ _ pass. by-cases old.is_failed (λ before. done.bad before pass) (λ fine.
-          let f = job.function in
-          let n = length (fault_classes f (own_items job.job job.task items (suc number))) in
-          let e = counts completed (done.good fine) in
-          let past : most < n = omega (arith, e, more) in
-          over job.limits.job_skips most n (length (fault_classes f (task_items job.job job.task items))) is past (fewer job.job some items f job.task number has) (own-passes job items pass).few);
+      good = λ fine. yes-or-no new.is_failed failed fine;
+      bad = λ _ pass. elim (cases_Bool old.is_failed) [
+        | inl before ↦ done.bad before pass
+        | inr fine ↦
+            (let f = job.function in
+            let n = length (fault_classes f (own_items job.job job.task items (suc number))) in
+            let e = counts completed (done.good fine) in
+            let past : most < n = omega (arith, e, more) in
+            over job.limits.job_skips most n (length (fault_classes f (task_items job.job job.task items))) is past (fewer job.job some items f job.task number has) (own-passes job items pass).few)
+      ];
     }
 
 -- after the last slice, without a failure

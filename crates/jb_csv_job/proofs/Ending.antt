@@ -1,36 +1,15 @@
 -- One slice, in the job's terms.
-use Rattle.std.proofs.Common.{◌≡◌, ◌≢◌, ◌∙◌, ℕ, zero, suc, List, [], Option, None, Some, ap, arith, refl, subst, sym, ◌⊎◌, inl, inr}
-use Rattle.std.specs.Prelude.{IfSome, map}
-use Rattle.std.specs.List.{AllByRecursion}
-use Rattle.sqlite.specs.Files.{HoldsDatabase, IsNothing}
-use Rattle.sqlite.specs.State.{HasCleanDisk, State}
+use Rattle.std.{proofs.Common.{◌≡◌, ◌∙◌, ℕ, List, [], Option, None, Some, ap, subst, sym, inl, inr}, specs.Prelude.{IfSome, map}, specs.List.{AllByRecursion}}
+use Rattle.sqlite.specs.{Files.{HoldsDatabase, IsNothing}, State.{HasCleanDisk, State}}
 use Rattle.sqlite_trees.specs.Tree.{Trees}
 use Rattle.sqlite_wal.specs.Recovery.{Image}
-use Rattle.jb_collect.specs.declared.calls.Status.{Status}
-use Rattle.jb_collect.specs.declared.calls.Status.TheVariants.{Completed, Failed}
+use Rattle.jb_collect.specs.declared.calls.Status.{Status, TheVariants.{Completed, Failed}}
 use Rattle.jb_records.specs.PartitionResults.{joined}
-use Rattle.jb_slice_run.specs.durable.Ends.{HasEnded}
-use Rattle.jb_slice_run.specs.durable.Work.{IsResumed, slice_input_of}
-use Rattle.jb_slice_run.specs.declared.durable.end.SliceEnd.{SliceEnd}
-use Rattle.jb_slice_file.specs.Connections.{IsJustOpened}
-use Rattle.jb_slice_file.specs.Files.{HasRunCheckpoints}
-use Rattle.jb_slice_file.specs.CheckpointBytes.{CheckpointBytes}
-use Rattle.jb_slice_file.specs.Rows.{Has, ShowsList}
-use Rattle.jb_slice_run.specs.Held.{faults_in, limits_in}
-use Rattle.jb_slice_run.specs.Jobs.{job_in, stamps_in}
-use Rattle.jb_slice_run.specs.Named.{failure_in}
-use Rattle.jb_slice_run.specs.SliceBytes.{KeepsSlice}
-use Rattle.jb_slice_run.specs.Step.{AreStampsOf}
-use Rattle.jb_slice_run.specs.declared.job.SliceJob.{SliceJob}
-use Rattle.jb_slices.specs.Failures.{IsFailureOf}
-use Rattle.jb_slices.specs.Function.{Function, all_results, faults_from}
-use Rattle.jb_slices.specs.Job.{Job, Limits, first_of, rules_of}
-use Rattle.jb_slices.specs.Passing.{SlicePasses}
-use Rattle.jb_slices.specs.Slice.{Functions, IsSliceSoFar}
-use Rattle.jb_csv_job.specs.Job.{identity_of, job_record, limits_of, stamps_of}
-use Rattle.jb_csv_job.specs.SliceFiles.{HoldsSlice, KeepsOwn}
-use Rattle.jb_csv_job.specs.Slices.{IsSliceEnd, IsSliceJobOf}
-use Rattle.jb_csv_job.specs.declared.asked.Asked.{Asked}
+use Rattle.jb_slice_run.specs.{durable.Ends.{HasEnded}, durable.Work.{IsResumed, slice_input_of}, declared.durable.end.SliceEnd.{SliceEnd}, Held.{faults_in, limits_in}, Jobs.{job_in, stamps_in}}
+use Rattle.jb_slice_run.specs.{Named.{failure_in}, SliceBytes.{KeepsSlice}, Step.{AreStampsOf}, declared.job.SliceJob.{SliceJob}}
+use Rattle.jb_slice_file.specs.{Connections.{IsJustOpened}, Files.{HasRunCheckpoints}, CheckpointBytes.{CheckpointBytes}, Rows.{Has, ShowsList}}
+use Rattle.jb_slices.specs.{Failures.{IsFailureOf}, Function.{Function, all_results, faults_from}, Job.{Job, Limits, first_of, rules_of}, Passing.{SlicePasses}, Slice.{Functions, IsSliceSoFar}}
+use Rattle.jb_csv_job.specs.{Job.{identity_of, job_record, limits_of, stamps_of}, SliceFiles.{HoldsSlice, KeepsOwn}, Slices.{IsSliceEnd, IsSliceJobOf}, declared.asked.Asked.{Asked}}
 use Rattle.jb_csv_job.specs.declared.job.CsvJob.{CsvJob}
 
 not-both : (s : Status) → s ≡ Completed → s ≡ Failed → ⊥
@@ -107,12 +86,3 @@ module _ (csv : CsvJob) (asked : Asked) (slice : SliceJob) (of : IsSliceJobOf cs
           },
         )
       ]
-
-pub same-or-other : (k number : ℕ) → (k ≢ number) ⊎ (k ≡ number)
-same-or-other zero zero = inr refl
-same-or-other zero (suc n) = inl (λ e. omega (arith, e))
-same-or-other (suc k) zero = inl (λ e. omega (arith, e))
-same-or-other (suc k) (suc n) = elim (same-or-other k n) [
-  | inl other ↦ inl (λ e. other (omega (arith, e)))
-  | inr same ↦ inr (ap suc same)
-]

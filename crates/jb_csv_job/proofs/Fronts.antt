@@ -1,17 +1,9 @@
 -- A text is read in one way only: what a reader gave are the first records of the text.
-use Rattle.std.proofs.Common.{◌≡◌, ◌∙◌, ℕ, ◌++◌, ◌∷◌, List, [], Option, None, Some, ap, append_assoc, refl, subst, sym}
-use Rattle.std.proofs.lemmas.List.{append_cancel_left}
-use Rattle.csv.specs.Machine.{Read, next_record}
-use Rattle.csv.specs.Reading.{Reached, strip_bom}
-use Rattle.csv.specs.declared.parser.Config.{Config}
+use Rattle.std.proofs.{Common.{◌≡◌, ◌∙◌, ℕ, ◌++◌, ◌∷◌, List, [], Option, None, Some, ap, append_assoc, refl, subst, sym}, lemmas.List.{append_cancel_left}}
+use Rattle.csv.specs.{Machine.{Read, next_record}, Reading.{Reached, strip_bom}, declared.parser.Config.{Config}, declared.parser.State.{State}}
 use Rattle.csv.specs.declared.parser.State.TheVariants as st
-use Rattle.csv.specs.declared.parser.State.{State}
-use Rattle.jb_rows.proofs.Headers.{read-first}
-use Rattle.jb_rows.specs.Fields.{Fields}
-use Rattle.jb_rows.specs.Streams.{HasGivenRows}
-use Rattle.jb_rows.specs.Texts.{AreRowsOf, config_of, header_of}
-use Rattle.jb_rows.specs.declared.rows_options.RowsOptions.{RowsOptions}
-use Rattle.jb_rows.specs.declared.rows_reader.RowsReader.{RowsReader}
+use Rattle.jb_rows.{proofs.Headers.{read-first}, specs.Fields.{Fields}, specs.Streams.{HasGivenRows}, specs.Texts.{AreRowsOf, config_of, header_of}}
+use Rattle.jb_rows.specs.declared.{rows_options.RowsOptions.{RowsOptions}, rows_reader.RowsReader.{RowsReader}}
 
 -- these are the first of those
 abbrev pub IsFrontOf : {A : Type 0} → (front all : List A) → Type 0

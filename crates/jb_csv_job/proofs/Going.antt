@@ -1,42 +1,22 @@
 -- Slice after slice.
-use Rattle.std.proofs.Common.{◌≡◌, ◌∙◌, ℕ, suc, ◌<◌, ◌≤◌, List, [], Bool, true, false, Option, None, Some, ap, arith, map, refl, subst, sym, take, ◌⊎◌, inl, inr}
-use Rattle.std.specs.Prelude.{MatchOption, not, ⊤}
+use Rattle.std.{proofs.Common.{◌≡◌, ◌∙◌, ℕ, suc, ◌<◌, ◌≤◌, List, [], Bool, true, false, Option, None, Some, ap, arith, map, refl, subst, sym, take, ◌⊎◌, inl, inr}, specs.Prelude.{MatchOption, ⊤}}
+use Rattle.std.proofs.lemmas.Bool.{MatchBool-at_false, MatchBool-at_true}
 use Rattle.sqlite_wal.specs.Recovery.{Image}
-use Rattle.jb_rows.specs.Fields.{Fields, packed}
-use Rattle.jb_rows.specs.Streams.{HasGivenRows}
-use Rattle.jb_rows.specs.Texts.{AreRowsOf}
-use Rattle.jb_rows.specs.declared.rows_reader.RowsReader.{RowsReader}
+use Rattle.jb_rows.specs.{Fields.{Fields, packed}, Streams.{HasGivenRows}, Texts.{AreRowsOf}, declared.rows_reader.RowsReader.{RowsReader}}
 use Rattle.jb_slice_file.specs.Files.{HoldsRun}
-use Rattle.jb_slices.specs.Function.{all_results}
-use Rattle.jb_slices.specs.Job.{HasSlice, IsLastSlice, first_of}
-use Rattle.jb_slices.specs.Slice.{Functions}
-use Rattle.jb_csv_job.specs.Done.{HasEnded, HasTakenSoFar}
-use Rattle.jb_csv_job.specs.Job.{JobRecord}
-use Rattle.jb_csv_job.specs.SliceFiles.{HoldsSlice, CanResumeJob, KeepsOwn, LeavesSlice, image_by, slice_of}
-use Rattle.jb_csv_job.specs.Loop.{AreDone, HasGoneOn, IsFront, IsLeft, IsLeftOfAny, IsSliceOfText, IsSliceRead, StandsBefore, front_of}
-use Rattle.jb_csv_job.specs.Tasks.{given_by, is_own}
-use Rattle.jb_csv_job.specs.declared.tally.Tally.{Tally}
-use Rattle.jb_csv_job.proofs.Doing.{all-given, all-pass, all-skips}
-use Rattle.jb_csv_job.proofs.Owning.{given-none}
+use Rattle.jb_slices.specs.{Function.{all_results}, Job.{HasSlice, IsLastSlice, first_of}, Slice.{Functions}}
+use Rattle.jb_csv_job.specs.{Done.{HasEnded, HasTakenSoFar}, Job.{JobRecord}, SliceFiles.{HoldsSlice, CanResumeJob, KeepsOwn, LeavesSlice, image_by, slice_of}}
+use Rattle.jb_csv_job.specs.{Loop.{AreDone, HasGoneOn, IsFront, IsLeft, IsLeftOfAny, IsSliceOfText, IsSliceRead, StandsBefore, front_of}, Tasks.{given_by, is_own}, declared.tally.Tally.{Tally}}
+use Rattle.jb_csv_job.proofs.{Doing.{all-given, all-pass, all-skips}, Owning.{given-none}}
 
 -- the slice that was read is the last one, or the reader stands before the next one
 pub last-read : {R : Type 0} {job : JobRecord} {remaining : R → Option (List ℕ)} {text : List ℕ} {records : List Fields} {number : ℕ} {reader : RowsReader R} {rows : List Fields} {is_last : Bool}
     → IsSliceRead job remaining text records number reader rows is_last → is_last ≡ true → IsLastSlice job.job (map packed records) number
-last-read {is_last = true} slice e = slice.next
-last-read {is_last = false} slice e = (let no : ⊥ = cc e in absurd no)
+last-read slice e = MatchBool-at_true _ _ e slice.next
 
 pub next-read : {R : Type 0} {job : JobRecord} {remaining : R → Option (List ℕ)} {text : List ℕ} {records : List Fields} {number : ℕ} {reader : RowsReader R} {rows : List Fields} {is_last : Bool}
     → IsSliceRead job remaining text records number reader rows is_last → is_last ≡ false → StandsBefore job remaining text records (suc number) reader
-next-read {is_last = true} slice e = (let no : ⊥ = cc e in absurd no)
-next-read {is_last = false} slice e = slice.next
-
-pub yes-not : (b : Bool) → not b ≡ true → b ≡ false
-yes-not true e = (let no : ⊥ = cc e in absurd no)
-yes-not false e = refl
-
-pub no-not : (b : Bool) → not b ≡ false → b ≡ true
-no-not true e = refl
-no-not false e = (let no : ⊥ = cc e in absurd no)
+next-read slice e = MatchBool-at_false _ _ e slice.next
 
 few-zero : (limit : Option ℕ) (n : ℕ) → n ≡ 0 → MatchOption limit ⊤ (λ l. n ≤ l)
 few-zero None n e = tt

@@ -3,7 +3,6 @@ pub mod Doing
 pub mod Ending
 pub mod Fronts
 pub mod Going
-pub mod Joining
 mod Listing
 mod Matching
 pub mod Owning

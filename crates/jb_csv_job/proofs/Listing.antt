@@ -1,33 +1,18 @@
 -- The list of faults, slice after slice.
 use Rattle.std.proofs.Common.{◌≡◌, ◌∙◌, ℕ, suc, ◌+◌, ◌-◌, ◌/◌, ◌<◌, ◌≤◌, ◌++◌, ◌∷◌, ◌⊎◌, List, [], Bool, true, false, Option, None, Some, ap, arith, length, map, refl, subst, sym, take, drop, decimal}
-use Rattle.std.specs.Prelude.{codes, get_or, if◌then◌else◌, option_map, slice_get, unwrap_or}
-use Rattle.std.specs.List.{AllByRecursion}
-use Rattle.std.proofs.lemmas.List.{append-nil, get_or-drop, get_or-map, get_or-take, length-drop, length-map, length-take, map-append}
-use Rattle.std.proofs.lemmas.Option.{slice_get-map, unwrap_or-slice_get}
-use Rattle.jb_answers.specs.Classes.{class_name, name_by}
-use Rattle.jb_answers.specs.declared.fault_class.FaultClass.{FaultClass}
+use Rattle.std.specs.{Prelude.{codes, get_or, if◌then◌else◌, option_map, slice_get, unwrap_or}, List.{AllByRecursion}}
+use Rattle.std.proofs.lemmas.{List.{append-nil, get_or-drop, get_or-map, get_or-take, length-drop, length-map, length-take, map-append}, Option.{slice_get-map, unwrap_or-slice_get}}
+use Rattle.jb_answers.specs.{Classes.{class_name, name_by}, declared.fault_class.FaultClass.{FaultClass}}
 use Rattle.jb_base.specs.declared.class.ClassId.{ClassId}
 use Rattle.jb_collect.specs.declared.calls.Status.TheVariants.{Completed, Failed}
-use Rattle.jb_rows.specs.Fields.{Fields, fields_in, packed}
-use Rattle.jb_rows.specs.Places.{AreLinesFrom, BeginsIn}
-use Rattle.jb_rows.specs.declared.rows_options.RowsOptions.{RowsOptions}
-use Rattle.jb_rows.specs.declared.rows_reader.RowsReader.{RowsReader}
+use Rattle.jb_rows.specs.{Fields.{Fields, fields_in, packed}, Places.{AreLinesFrom, BeginsIn}, declared.rows_options.RowsOptions.{RowsOptions}, declared.rows_reader.RowsReader.{RowsReader}}
 use Rattle.jb_rows.proofs.Packing.{read-packed}
-use Rattle.jb_slice_run.specs.Held.{fault_in, faults_in}
-use Rattle.jb_slice_run.specs.declared.durable.end.SliceEnd.{SliceEnd}
+use Rattle.jb_slice_run.specs.{Held.{fault_in, faults_in}, declared.durable.end.SliceEnd.{SliceEnd}}
 use Rattle.jb_slice_run.specs.declared.fault.Fault as held
-use Rattle.jb_slices.specs.Function.{Fault, Function, fault_and, faults_from, refusal_of}
-use Rattle.jb_slices.specs.Job.{IsLastSlice, first_of, slice_at}
-use Rattle.jb_slices.proofs.Jobs.{one-last}
-use Rattle.jb_slices.proofs.Lasting.{last-is}
-use Rattle.jb_csv_job.specs.Job.{JobRecord}
-use Rattle.jb_csv_job.specs.Loop.{StandsBefore}
-use Rattle.jb_csv_job.specs.Reports.{line_at}
-use Rattle.jb_csv_job.specs.SliceFiles.{slice_of}
-use Rattle.jb_csv_job.specs.Skipped.{AreListed, AreRowsFor, IfListed, IsRowOf, IsSliceListed, name_in, own_faults, record_bytes, skipped_by, skipped_row, task_faults}
-use Rattle.jb_csv_job.specs.Slices.{IsSliceEnd}
-use Rattle.jb_csv_job.specs.Tasks.{is_own}
-use Rattle.jb_csv_job.proofs.Doing.{yes-or-no}
+use Rattle.jb_slices.{specs.Function.{Fault, Function, fault_and, faults_from, refusal_of}, specs.Job.{IsLastSlice, first_of, slice_at}, proofs.Jobs.{one-last}, proofs.Lasting.{last-is}}
+use Rattle.jb_csv_job.specs.{Job.{JobRecord}, Loop.{StandsBefore}, Reports.{line_at}, SliceFiles.{slice_of}}
+use Rattle.jb_csv_job.specs.{Skipped.{AreListed, AreRowsFor, IfListed, IsRowOf, IsSliceListed, name_in, own_faults, record_bytes, skipped_by, skipped_row, task_faults}, Slices.{IsSliceEnd}}
+use Rattle.jb_csv_job.{specs.Tasks.{is_own}, proofs.Doing.{yes-or-no}}
 
 -- ---- a list that is asked for
 

@@ -1,17 +1,9 @@
 -- A job's command line, as `clap` takes it.
-use Rattle.std.proofs.Common.{[], ◌∷◌, map, length, slice_index_or, arith, ◌≡◌, ◌∙◌, refl, ap, subst, subst₂, true, List, Option, Some, None, inl, inr, ◌≢◌}
+use Rattle.std.{proofs.Common.{[], ◌∷◌, map, length, slice_index_or, arith, ◌≡◌, ◌∙◌, refl, ap, subst, subst₂, true, List, Option, Some, None, inl, inr, ◌≢◌}, specs.Borrow.{Bor}}
 use mathlib.Core.Path.{fun_ext}
-use Rattle.std.specs.Borrow.{Bor}
-use Rattle.clap.proofs.WalkLemmas.{first_value-rows, raw_values-rows}
-use Rattle.clap.specs.Words.{HasKind, IsAmong, Text, all_of, first_of, found_of, is_simple, is_simple_and_free, kind_of, matches_of, rows_of}
-use Rattle.clap.specs.declared.error.Error.{Error}
-use Rattle.clap.specs.declared.error.kind.ErrorKind.{ErrorKind}
-use Rattle.clap.specs.declared.error.kind.ErrorKind.TheVariants.{OutOfMemory}
-use Rattle.clap.specs.declared.parser.matches.ArgMatches.{ArgMatches}
-use Rattle.jb_csv_job.specs.CommandLine.{AreRefused, IsLine, IsWrong, all_at, first_at, job_app}
-use Rattle.jb_csv_job.specs.Matched.{all_in, first_in}
-use Rattle.jb_csv_job.specs.declared.asked.Asked.{Asked}
-use Rattle.jb_csv_job.specs.declared.failure.CsvJobError.{CsvJobError}
+use Rattle.clap.{proofs.WalkLemmas.{first_value-rows, raw_values-rows}, specs.Words.{HasKind, IsAmong, Text, all_of, first_of, found_of, is_simple, is_simple_and_free, kind_of, matches_of, rows_of}}
+use Rattle.clap.specs.declared.{error.Error.{Error}, error.kind.ErrorKind.{ErrorKind}, error.kind.ErrorKind.TheVariants.{OutOfMemory}, parser.matches.ArgMatches.{ArgMatches}}
+use Rattle.jb_csv_job.specs.{CommandLine.{AreRefused, IsLine, IsWrong, all_at, first_at, job_app}, Matched.{all_in, first_in}, declared.asked.Asked.{Asked}, declared.failure.CsvJobError.{CsvJobError}}
 use Rattle.jb_csv_job.specs.declared.failure.CsvJobError.TheVariants as failure
 use Rattle.jb_csv_job.specs.declared.failure.WordsFault.TheVariants as fault
 

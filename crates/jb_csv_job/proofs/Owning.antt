@@ -1,18 +1,9 @@
 -- What a task has of a job's items.
 use Rattle.std.proofs.Common.{◌≡◌, ◌∙◌, ℕ, zero, suc, ◌+◌, ◌/◌, ◌<◌, ◌≤◌, ◌++◌, List, [], Bool, true, false, ap, arith, length, length-append, refl, subst, sym, take, inl, inr}
-use Rattle.std.specs.Prelude.{if◌then◌else◌, MatchOption, ⊤}
-use Rattle.std.proofs.lemmas.List.{append-nil}
-use Rattle.std.proofs.lemmas.Nat.{le-div}
-use Rattle.jb_slices.specs.Function.{Function, all_results, fault_classes}
-use Rattle.jb_slices.specs.Job.{HasSlice, IsLastSlice, Job, first_of, slice_at}
-use Rattle.jb_slices.proofs.Faults.{classes-append, fewer-classes, results-append}
-use Rattle.jb_slices.proofs.Jobs.{one-last}
-use Rattle.jb_slices.proofs.Lasting.{last-is}
-use Rattle.jb_slices.proofs.Passing.{order}
-use Rattle.jb_slices.proofs.Seams.{all-of-them, one-slice-more}
-use Rattle.jb_csv_job.specs.Job.{JobRecord}
-use Rattle.jb_csv_job.specs.Tasks.{OwnPass, TaskPasses, given_by, is_own, own_items, passes_by, task_items}
-use Rattle.jb_csv_job.specs.declared.asked.Task.{Task}
+use Rattle.std.{specs.Prelude.{if◌then◌else◌, MatchOption, ⊤}, proofs.lemmas.List.{append-nil}, proofs.lemmas.Nat.{le-div}}
+use Rattle.jb_slices.{specs.Function.{Function, all_results, fault_classes}, specs.Job.{HasSlice, IsLastSlice, Job, first_of, slice_at}, proofs.Faults.{classes-append, fewer-classes, results-append}}
+use Rattle.jb_slices.proofs.{Jobs.{one-last}, Lasting.{last-is}, Passing.{order}, Seams.{all-of-them, one-slice-more}}
+use Rattle.jb_csv_job.specs.{Job.{JobRecord}, Tasks.{OwnPass, TaskPasses, given_by, is_own, own_items, passes_by, task_items}, declared.asked.Task.{Task}}
 use Rattle.jb_csv_job.specs.declared.asked.Task.TheVariants.{Collect, Part, Run}
 
 -- ---- what is given

@@ -1,14 +1,8 @@
 -- What a sink of lines of CSV took.
-use Rattle.std.proofs.Common.{◌≡◌, ℕ, List, ◌++◌, Option, map, ap, subst, sym, ◌∙◌}
-use Rattle.std.proofs.KnownBytes.{Appends-trans}
-use Rattle.std.proofs.lemmas.List.{map-append}
-use Rattle.std.proofs.lemmas.List.Folds.{concat-append}
-use Rattle.std.specs.List.{concat}
-use Rattle.std.specs.Io.KnownBytes.{Appends}
-use Rattle.jb_rows.specs.Fields.{Fields, fields_in}
-use Rattle.jb_rows.specs.Streams.{csv_row, csv_rows}
-use Rattle.jb_csv_job.specs.Sinks.{HasTaken, lines_written}
-use Rattle.jb_csv_job.specs.declared.sink.CsvSink.{CsvSink}
+use Rattle.std.proofs.{Common.{◌≡◌, ℕ, List, ◌++◌, Option, map, ap, subst, sym, ◌∙◌}, KnownBytes.{Appends-trans}, lemmas.List.{map-append}, lemmas.List.Folds.{concat-append}}
+use Rattle.std.specs.{List.{concat}, Io.KnownBytes.{Appends}}
+use Rattle.jb_rows.specs.{Fields.{Fields, fields_in}, Streams.{csv_row, csv_rows}}
+use Rattle.jb_csv_job.specs.{Sinks.{HasTaken, lines_written}, declared.sink.CsvSink.{CsvSink}}
 
 -- the lines of both
 pub lines-of-both : (delimiter : ℕ) (first later : List Fields) → csv_rows delimiter (first ++ later) ≡ csv_rows delimiter first ++ csv_rows delimiter later

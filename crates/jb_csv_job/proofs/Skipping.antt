@@ -1,10 +1,7 @@
 -- The lines of the list of skipped records.
-use Rattle.std.proofs.Common.{◌≡◌, ◌∙◌, ℕ, ◌+◌, ◌<◌, List, [], ◌∷◌, ◌++◌, ap, append_assoc, length, map, refl, sym, take}
-use Rattle.std.specs.Prelude.{slice_index_or}
-use Rattle.std.proofs.lemmas.List.{map_more, map_push}
-use Rattle.jb_rows.specs.Fields.{Fields, fields_in, packed, packed_field}
+use Rattle.std.{proofs.Common.{◌≡◌, ◌∙◌, ℕ, ◌+◌, ◌<◌, List, [], ◌∷◌, ◌++◌, ap, append_assoc, length, map, refl, sym, take}, specs.Prelude.{slice_index_or}, proofs.lemmas.List.{map_more, map_push}}
+use Rattle.jb_rows.{specs.Fields.{Fields, fields_in, packed, packed_field}, proofs.Packing.{fields-first, first-packed}}
 use Rattle.jb_csv_job.specs.Skipped.{skipped_header}
-use Rattle.jb_rows.proofs.Packing.{fields-first, first-packed}
 
 -- the fields in packed ones and bytes after them
 pub fields-after : (head : Fields) (bytes : List ℕ) → fields_in (packed head ++ bytes) ≡ head ++ fields_in bytes

@@ -1,36 +1,18 @@
 -- The records of one slice.
-use Rattle.std.proofs.Common.{◌≡◌, ◌∙◌, ℕ, zero, suc, ◌≤◌, ◌++◌, ◌∷◌, List, [], Bool, true, false, Option, ap, append_assoc, arith, length, map, refl, subst, sym, take, drop, ◌⊎◌, inl, inr}
-use Rattle.std.specs.Bool.{MatchBool}
-use Rattle.std.proofs.lemmas.List.{append-nil, append_cancel_left, drop-map, length-map, length-take-le, take-append-le, take-map, take_all}
-use Rattle.jb_rows.specs.Fields.{Fields, packed}
-use Rattle.jb_rows.specs.Streams.{HasGivenRows}
-use Rattle.jb_rows.specs.Texts.{AreRowsOf}
-use Rattle.jb_rows.specs.declared.rows_reader.RowsReader.{RowsReader}
-use Rattle.jb_slices.specs.Job.{HasSlice, IsLastSlice, Job, first_of, slice_at}
-use Rattle.jb_slices.proofs.Seams.{next-first, take-more}
-use Rattle.jb_csv_job.specs.Job.{JobRecord}
-use Rattle.jb_csv_job.specs.SliceFiles.{slice_of}
-use Rattle.jb_csv_job.specs.Loop.{IsSliceRead, StandsBefore}
-use Rattle.jb_csv_job.proofs.Fronts.{given-front, same-rows}
-
--- after a list come those behind it
-drop-those : {A : Type 0} → (xs ys : List A) (n : ℕ) → length xs ≡ n → drop n (xs ++ ys) ≡ ys
-drop-those [] ys zero e = refl
-drop-those [] ys (suc n) e = absurd (omega (arith, e))
-drop-those (x ∷ xs) ys zero e = absurd (omega (arith, e))
-drop-those (x ∷ xs) ys (suc n) e = drop-those xs ys n (omega (arith, e))
+use Rattle.std.proofs.Common.{◌≡◌, ◌∙◌, ℕ, suc, ◌≤◌, ◌++◌, List, [], Bool, true, false, Option, ap, append_assoc, arith, length, map, refl, subst, sym, take, drop, ◌⊎◌, inl, inr}
+use Rattle.std.{specs.Bool.{MatchBool}, proofs.lemmas.Bool.{cases_Bool}}
+use Rattle.std.proofs.lemmas.List.{append-nil, append_cancel_left, drop-map, drop_at, length-map, length-take-le, take-map, take_all, take_at}
+use Rattle.jb_rows.specs.{Fields.{Fields, packed}, Streams.{HasGivenRows}, Texts.{AreRowsOf}, declared.rows_reader.RowsReader.{RowsReader}}
+use Rattle.jb_slices.{specs.Job.{HasSlice, IsLastSlice, Job, first_of, slice_at}, proofs.Seams.{next-first, take-more}}
+use Rattle.jb_csv_job.{specs.Job.{JobRecord}, specs.SliceFiles.{slice_of}, specs.Loop.{IsSliceRead, StandsBefore}, proofs.Fronts.{given-front, same-rows}}
 
 -- so many, or those before the end
 abbrev AreTaken : {A : Type 0} → (m : ℕ) → (rows rest : List A) → Type 0
 AreTaken m rows rest = (length rows ≡ m) ⊎ ((rest ≡ []) × (length rows ≤ m))
 
 take-those : {A : Type 0} → (m : ℕ) (rows rest : List A) → AreTaken m rows rest → take m (rows ++ rest) ≡ rows
-take-those m rows rest (inl full) = take-append-le m rows rest (omega (arith, full)) ∙ take_all m rows (omega (arith, full))
+take-those m rows rest (inl full) = take_at rows rest m full
 take-those m rows rest (inr last) = ap (λ xs. take m (rows ++ xs)) last.0 ∙ ap (take m) (append-nil rows) ∙ take_all m rows last.1
-
-by-more : {A B : Type 0} → (more : Bool) → (more ≡ true → A) → (more ≡ false → B) → A ⊎ B
-by-more true full last = inl (full refl)
-by-more false full last = inr (last refl)
 
 if-not : (P Q S : Type 0) (b : Bool) → MatchBool b P Q → (Q → S) → MatchBool b P S
 if-not P Q S true is f = is
@@ -51,10 +33,11 @@ module _ {R : Type 0} (job : JobRecord) (remaining : R → Option (List ℕ)) (t
       let has = stands.has in
       let same = length-map records packed in
       let count : length before ≡ n = length-take-le n records (omega (arith, has, same)) in
-      let ends : AreTaken m rows rest = by-more more full (λ e.
-      let whole = same-rows job.options text records (before ++ rows) read (all e) in
-      (append_cancel_left (before ++ rows) rest [] (sym front ∙ whole ∙ sym (append-nil (before ++ rows))), most)) in
-      sym (ap (λ xs. take m (drop n xs)) (front ∙ append_assoc before rows rest) ∙ ap (take m) (drop-those before (rows ++ rest) n count) ∙ take-those m rows rest ends)
+      let ends : AreTaken m rows rest = elim (cases_Bool more) [
+        | inl is ↦ inl (full is)
+        | inr isnt ↦ inr (append_cancel_left (before ++ rows) rest [] (sym front ∙ same-rows job.options text records (before ++ rows) read (all isnt) ∙ sym (append-nil (before ++ rows))), most)
+      ] in
+      sym (ap (λ xs. take m (drop n xs)) (front ∙ append_assoc before rows rest) ∙ ap (take m) (drop_at before (rows ++ rest) n count) ∙ take-those m rows rest ends)
 
   pub items-are : map packed rows ≡ slice_of job records number
   items-are =

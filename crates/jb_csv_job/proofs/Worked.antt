@@ -1,9 +1,6 @@
 -- Worked values: the file of a slice, and what the values of options say.
-use Rattle.std.proofs.Common.{◌≡◌, refl, Some, None, codes}
-use Rattle.std.specs.Fmt.{char_count, digits, padded_integral}
-use Rattle.jb_csv_job.specs.Asking.{number_between, part_of}
-use Rattle.jb_csv_job.specs.Paths.{slice_path}
-use Rattle.jb_csv_job.specs.declared.asked.Task.TheVariants.{Part}
+use Rattle.std.{proofs.Common.{◌≡◌, refl, Some, None, codes}, specs.Fmt.{char_count, digits, padded_integral}}
+use Rattle.jb_csv_job.specs.{Asking.{number_between, part_of}, Paths.{slice_path}, declared.asked.Task.TheVariants.{Part}}
 
 slice_57 : slice_path (codes "jobs") 57 ≡ codes "jobs/slice-000057.db"
 unfolding padded_integral digits char_count

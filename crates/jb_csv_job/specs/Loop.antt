@@ -5,19 +5,26 @@ use Rattle.sqlite_wal.specs.Recovery.{Image}
 use Rattle.jb_collect.specs.declared.calls.Status.TheVariants.{Completed, Failed}
 use Rattle.jb_rows.specs.Fields.{Fields, packed}
 use Rattle.jb_rows.specs.Streams.{HasGivenRows}
+use Rattle.jb_rows.specs.Texts.{AreRowsOf}
 use Rattle.jb_rows.specs.declared.rows_reader.RowsReader.{RowsReader}
 use Rattle.jb_slice_run.specs.declared.durable.end.SliceEnd.{SliceEnd}
 use Rattle.jb_slice_file.specs.Files.{HoldsRun}
-use Rattle.jb_slices.specs.Function.{all_results, fault_classes}
+use Rattle.jb_slice_run.specs.Step.{AreStampsOf}
+use Rattle.jb_slices.specs.Function.{Function, all_results, fault_classes}
 use Rattle.jb_slices.specs.Job.{HasSlice, IsLastSlice, first_of, slice_at}
 use Rattle.jb_slices.specs.Passing.{SlicePasses}
 use Rattle.jb_slices.specs.Slice.{Functions}
-use Rattle.jb_csv_job.specs.Job.{JobRecord}
-use Rattle.jb_csv_job.specs.SliceFiles.{HoldsSlice, CanResumeJob, KeepsOwn, slice_of}
+use Rattle.jb_csv_job.specs.Job.{JobRecord, job_record}
+use Rattle.jb_csv_job.specs.SliceFiles.{HoldsSlice, CanResumeJob, KeepsOwn, image_by, slice_of}
 use Rattle.jb_csv_job.specs.Tasks.{TaskPasses, given_by, is_own, own_items}
 use Rattle.jb_csv_job.specs.declared.tally.Seam.{Seam}
 use Rattle.jb_csv_job.specs.declared.tally.Seam.TheVariants.{Ends, Gives, Keeps}
 use Rattle.jb_csv_job.specs.declared.tally.Tally.{Tally}
+use Rattle.jb_csv_job.specs.declared.work.Work.{Work}
+
+-- the job of a call's work, by this function
+abbrev pub job_of : Work → Function → JobRecord
+job_of work function = job_record work.job.now work.asked.now function
 
 -- ---- READ
 
@@ -35,6 +42,14 @@ pub record IsSliceRead {R : Type 0} (job : JobRecord) (remaining : R → Option 
 abbrev pub IfJobResumes : {R : Type 0} → JobRecord → (remaining : R → Option (List ℕ)) → RowsReader R → (log db : ℕ → List ℕ) → (Functions → (text : List ℕ) → Type 0) → Type 0
 IfJobResumes job remaining reader log db Holds =
     (text : List ℕ) → HasGivenRows job.options remaining reader text [] → (functions : Functions) → CanResumeJob job functions (Some text) log db → Holds functions text
+
+-- this holds if the reader is before this slice of these records, and its files hold it so far, or nothing, if it is one of the task's own
+abbrev pub IfSliceResumes : {R : Type 0} → JobRecord → (remaining : R → Option (List ℕ)) → RowsReader R → (log db : ℕ → List ℕ) → (number : ℕ)
+    → (Functions → (text : List ℕ) → (records : List Fields) → Type 0) → Type 0
+IfSliceResumes job remaining reader log db number Holds =
+    (functions : Functions) → AreStampsOf functions job.function job.stamps → (text : List ℕ) (records : List Fields) → AreRowsOf job.options text records
+    → StandsBefore job remaining text records number reader → (is_own job.task number ≡ true → HoldsSlice job functions number (slice_of job records number) (image_by log db number))
+    → Holds functions text records
 
 -- ---- COUNTED
 
@@ -87,10 +102,26 @@ abbrev pub IsLeft : JobRecord → Functions → (stored : Image) → (number : �
 IsLeft job functions stored number items before k read image =
     before ⊎ ((k ≡ number) × (read ≡ items) × (HoldsSlice job functions number items stored → HoldsRun (KeepsOwn job functions number items) image))
 
+-- whatever it leaves of any slice is so
+abbrev pub LeavesOne : JobRecord → (stored : Image) → (number : ℕ) → (items : List (List ℕ)) → (old new : (k : ℕ) → (read : List (List ℕ)) → Image → Type 0) → Type 0
+LeavesOne job stored number items old new =
+    (functions : Functions) → AreStampsOf functions job.function job.stamps → (k : ℕ) (read : List (List ℕ)) (image : Image) → new k read image
+    → IsLeft job functions stored number items (old k read image) k read image
+
 -- the same of any slice that was run
 abbrev pub IsLeftOfAny : JobRecord → Functions → (stored : ℕ → Image) → (before : Type 0) → (k : ℕ) → (read : List (List ℕ)) → Image → Type 0
 IsLeftOfAny job functions stored before k read image = before ⊎ (HoldsSlice job functions k read (stored k) → HoldsRun (KeepsOwn job functions k read) image)
 
+-- WHATEVER A CRASH LEAVES is so
+abbrev pub LeavesAny : JobRecord → (log db : ℕ → List ℕ) → (old new : (k : ℕ) → (read : List (List ℕ)) → Image → Type 0) → Type 0
+LeavesAny job log db old new =
+    (functions : Functions) → AreStampsOf functions job.function job.stamps → (k : ℕ) (read : List (List ℕ)) (image : Image) → new k read image
+    → IsLeftOfAny job functions (image_by log db) (old k read image) k read image
+
 -- and these items are those of the text's slice, which is one of the task's own
 abbrev pub IsSliceOfText : JobRecord → (records : List Fields) → (before : Type 0) → (k : ℕ) → (read : List (List ℕ)) → Type 0
 IsSliceOfText job records before k read = before ⊎ (HasSlice job.job (map packed records) k × (is_own job.task k ≡ true) × (read ≡ slice_of job records k))
+
+-- all of them are
+abbrev pub AreOfText : JobRecord → (records : List Fields) → (old new : (k : ℕ) → (read : List (List ℕ)) → Image → Type 0) → Type 0
+AreOfText job records old new = (k : ℕ) (read : List (List ℕ)) (image : Image) → new k read image → IsSliceOfText job records (old k read image) k read

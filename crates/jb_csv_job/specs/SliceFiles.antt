@@ -51,6 +51,11 @@ pub record LeavesSlice (job : JobRecord) (functions : Functions) (text : Option 
   pub read : IfSome text (λ bytes. AreRowsOf job.options bytes records)
   pub holds : HoldsRun (KeepsOwn job functions number (slice_of job records number)) image
 
+-- WHATEVER IT LEAVES of any slice is what it left before the call, or the slice so far
+abbrev pub LeavesJob : JobRecord → Functions → (text : Option (List ℕ)) → (old new : (number : ℕ) → (items : List (List ℕ)) → Image → Type 0) → Type 0
+LeavesJob job functions text old new =
+    (number : ℕ) (items : List (List ℕ)) (image : Image) → new number items image → old number items image ⊎ LeavesSlice job functions text number image
+
 -- ---- FROM CALL TO CALL
 
 -- THE LAW: the next call can resume what a crash leaves of the files of a slice

@@ -4,16 +4,12 @@ use Rattle.std.specs.Prelude.{ℕ, ◌++◌, List, Option, Some, None, codes, de
 use Rattle.jb_csv_job.specs.Paths.{slice_path}
 use Rattle.jb_records.specs.declared.error.RecordsStepError.{RecordsStepError}
 use Rattle.jb_records.specs.declared.error.RecordsStepError.TheVariants as step
-use Rattle.jb_slice_run.specs.declared.durable.error.DurableError.{DurableError}
-use Rattle.jb_slice_run.specs.declared.durable.error.DurableError.TheVariants as run
 use Rattle.jb_slice_file.specs.declared.error.StoreError.{StoreError}
 use Rattle.jb_slice_file.specs.declared.error.StoreError.TheVariants as store
 use Rattle.jb_slice_run.specs.declared.error.IdentityPart.{IdentityPart}
 use Rattle.jb_slice_run.specs.declared.error.IdentityPart.TheVariants as identity
 use Rattle.jb_slice_run.specs.declared.error.SliceError.{SliceError}
 use Rattle.jb_slice_run.specs.declared.error.SliceError.TheVariants as slice
-use Rattle.jb_slice_run.specs.declared.run_error.SliceRunError.{SliceRunError}
-use Rattle.jb_slice_run.specs.declared.run_error.SliceRunError.TheVariants as part
 use Rattle.jb_step.specs.declared.error.StepError.{StepError}
 use Rattle.jb_step.specs.declared.error.StepError.TheVariants as round
 
@@ -70,26 +66,8 @@ part_what identity.Partitions = codes "another number of partitions"
 part_what identity.ItemCount = codes "another item count"
 part_what identity.Classes = codes "other classes of faults"
 
-abbrev pub slice_name : SliceError → List ℕ
-slice_name (slice.OtherJob part) = codes "OtherJob"
-slice_name slice.OtherSlice = codes "OtherSlice"
-slice_name slice.OtherItems = codes "OtherRecords"
-slice_name slice.OtherStamp = codes "OtherStamp"
-slice_name slice.LoweredLimit = codes "LoweredLimit"
-slice_name slice.Damaged = codes "Damaged"
-slice_name slice.TooLong = codes "TooLong"
-slice_name slice.Memory = codes "Memory"
-
--- of a job with this word for its records
-abbrev pub slice_what : (records : List ℕ) → SliceError → List ℕ
-slice_what records (slice.OtherJob part) = codes "the checkpoints are of a job with " ++ (part_what part ++ codes ". Name another FOLDER, or finish that job with its own program.")
-slice_what records slice.OtherSlice = codes "the checkpoints are of another slice. Give each file its own name again."
-slice_what records slice.OtherItems = codes "the checkpoints are of other " ++ (records ++ codes ". Type the same line with the input that the slice began with, or name another FOLDER.")
-slice_what records slice.OtherStamp = codes "the checkpoints are of a function with another stamp. If its results are still right, add --keep-stamp with that stamp. Else name another FOLDER."
-slice_what records slice.LoweredLimit = codes "a limit is lower than when the slice ran. Raise it again, or name another FOLDER."
-slice_what records slice.Damaged = codes "a checkpoint can't be read. Restore the file and its log from a copy, or delete both: the slice then runs again."
-slice_what records slice.TooLong = codes "a checkpoint has more than 4,294,967,295 bytes or texts. Ask the author of the job for shorter slices."
-slice_what records slice.Memory = codes "out of memory. Type the same line again when there is more, or with fewer threads."
+abbrev pub other_job_what : IdentityPart → List ℕ
+other_job_what part = codes "the checkpoints are of a job with " ++ (part_what part ++ codes ". Name another FOLDER, or finish that job with its own program.")
 
 -- ---- ITS STEP
 
@@ -107,13 +85,18 @@ step_text folder records number step.Memory = Some (at_slice (codes "Memory") fo
 
 -- ---- ITS RUN
 
-abbrev pub part_text : (folder records : List ℕ) → (number : ℕ) → SliceRunError → Option (List ℕ)
-part_text folder records number (part.Checkpoints error) = Some (at_slice (slice_name error) folder number (slice_what records error))
-part_text folder records number (part.Step error) = step_text folder records number error
-part_text folder records number part.TooMany = Some (at_slice (codes "TooMany") folder number (codes "there are too many " ++ (records ++ codes ": their numbers end at 18,446,744,073,709,551,615.")))
-
-abbrev pub run_text : (folder records : List ℕ) → (number : ℕ) → DurableError → Option (List ℕ)
-run_text folder records number (run.Store error) = store_text folder number error
-run_text folder records number (run.Run error) = part_text folder records number error
-run_text folder records number run.TooMany = store_text folder number store.TooMany
-run_text folder records number run.Stopped = Some (at_slice (codes "Stopped") folder number (folder ++ codes "/stop is there. What was done is stored. Remove it, and type the same line again."))
+-- of a job with this word for its records
+abbrev pub run_text : (folder records : List ℕ) → (number : ℕ) → SliceError → Option (List ℕ)
+run_text folder records number (slice.Store error) = store_text folder number error
+run_text folder records number (slice.Step error) = step_text folder records number error
+run_text folder records number (slice.OtherJob part) = Some (at_slice (codes "OtherJob") folder number (other_job_what part))
+run_text folder records number slice.OtherSlice = Some (at_slice (codes "OtherSlice") folder number (codes "the checkpoints are of another slice. Give each file its own name again."))
+run_text folder records number slice.OtherItems = Some (at_slice (codes "OtherRecords") folder number (codes "the checkpoints are of other " ++ (records ++ codes ". Type the same line with the input that the slice began with, or name another FOLDER.")))
+run_text folder records number slice.OtherStamp = Some (at_slice (codes "OtherStamp") folder number (codes "the checkpoints are of a function with another stamp. If its results are still right, add --keep-stamp with that stamp. Else name another FOLDER."))
+run_text folder records number slice.LoweredLimit = Some (at_slice (codes "LoweredLimit") folder number (codes "a limit is lower than when the slice ran. Raise it again, or name another FOLDER."))
+run_text folder records number slice.Damaged = Some (at_slice (codes "Damaged") folder number (codes "a checkpoint can't be read. Restore the file and its log from a copy, or delete both: the slice then runs again."))
+run_text folder records number slice.TooLong = Some (at_slice (codes "TooLong") folder number (codes "a checkpoint has more than 4,294,967,295 bytes or texts. Ask the author of the job for shorter slices."))
+run_text folder records number slice.NoNumbers = Some (at_slice (codes "TooMany") folder number (codes "there are too many " ++ (records ++ codes ": their numbers end at 18,446,744,073,709,551,615.")))
+run_text folder records number slice.TooMany = store_text folder number store.TooMany
+run_text folder records number slice.Stopped = Some (at_slice (codes "Stopped") folder number (folder ++ codes "/stop is there. What was done is stored. Remove it, and type the same line again."))
+run_text folder records number slice.Memory = Some (at_slice (codes "Memory") folder number (codes "out of memory. Type the same line again when there is more, or with fewer threads."))

@@ -1,9 +1,13 @@
 -- How a slice of a job ends.
-use Rattle.std.specs.Prelude.{ℕ, ◌≡◌, List, map}
+use Rattle.std.specs.Prelude.{ℕ, ◌≡◌, List, map, IfOk, Result}
 use Rattle.std.specs.List.{AllByRecursion}
+use Rattle.sqlite.specs.State.{State}
+use Rattle.sqlite_trees.specs.Tree.{Trees}
 use Rattle.jb_collect.specs.declared.calls.Status.TheVariants.{Completed, Failed}
 use Rattle.jb_records.specs.PartitionResults.{joined}
+use Rattle.jb_slice_file.specs.Files.{HasRunCheckpoints}
 use Rattle.jb_slice_run.specs.declared.durable.end.SliceEnd.{SliceEnd}
+use Rattle.jb_slice_run.specs.durable.Work.{IfResumed}
 use Rattle.jb_slice_run.specs.Held.{faults_in, limits_in}
 use Rattle.jb_slice_run.specs.Jobs.{job_in, stamps_in}
 use Rattle.jb_slice_run.specs.Named.{failure_in}
@@ -15,6 +19,7 @@ use Rattle.jb_slices.specs.Job.{first_of, rules_of}
 use Rattle.jb_slices.specs.Passing.{SlicePasses}
 use Rattle.jb_slices.specs.Slice.{Functions, IsSliceSoFar, skips_in, stamp_of}
 use Rattle.jb_csv_job.specs.Job.{JobRecord, identity_of, limits_of, stamps_of}
+use Rattle.jb_csv_job.specs.SliceFiles.{KeepsOwn}
 use Rattle.jb_csv_job.specs.declared.asked.Asked.{Asked}
 use Rattle.jb_csv_job.specs.declared.job.CsvJob.{CsvJob}
 
@@ -42,3 +47,14 @@ pub record IsSliceEnd (job : JobRecord) (number : ℕ) (items : List (List ℕ))
   pub fails : end.status ≡ Failed → SlicePasses job.job job.limits job.function items → ⊥
   pub failures : end.status ≡ Failed → AllByRecursion (IsFailureOf job.function (rules_of job.job job.limits) (first_of job.job number) items) (map failure_in end.failures.items)
   pub named : IsNamed job number items end
+
+-- ---- A SLICE THAT IS RESUMED over its file
+
+-- it ends so
+abbrev pub EndsResumed : {E : Type 0} → SliceJob → JobRecord → (number : ℕ) → (items : List (List ℕ)) → (old new : State) → Result SliceEnd E → Type 0
+EndsResumed slice job number items old new result = IfResumed slice job.function number items old new (λ _ _. IfOk result (IsSliceEnd job number items))
+
+-- and a crash leaves it so far
+abbrev pub LeavesResumed : SliceJob → JobRecord → (number : ℕ) → (items : List (List ℕ)) → (old new : State) → Type 0
+LeavesResumed slice job number items old new =
+    IfResumed slice job.function number items old new (λ w _. (db : Trees) → new.may_leave db → HasRunCheckpoints (λ kept. KeepsOwn job w.functions number items kept) db)

@@ -7,12 +7,8 @@ use Rattle.jb_csv_job.specs.declared.failure.FolderFault.{FolderFault}
 use Rattle.jb_csv_job.specs.declared.failure.FolderFault.TheVariants as folder
 use Rattle.jb_csv_job.specs.declared.failure.OutputFault.{OutputFault}
 use Rattle.jb_csv_job.specs.declared.failure.OutputFault.TheVariants as output
-use Rattle.jb_slice_run.specs.declared.durable.error.DurableError.{DurableError}
-use Rattle.jb_slice_run.specs.declared.durable.error.DurableError.TheVariants as run
 use Rattle.jb_slice_run.specs.declared.error.SliceError.{SliceError}
 use Rattle.jb_slice_run.specs.declared.error.SliceError.TheVariants as slice
-use Rattle.jb_slice_run.specs.declared.run_error.SliceRunError.{SliceRunError}
-use Rattle.jb_slice_run.specs.declared.run_error.SliceRunError.TheVariants as part
 use Rattle.jb_slice_file.specs.declared.error.StoreError.{StoreError}
 use Rattle.jb_slice_file.specs.declared.error.StoreError.TheVariants as store
 use Rattle.jb_records.specs.declared.error.RecordsStepError.{RecordsStepError}
@@ -33,11 +29,6 @@ store_status store.Taken = 4
 store_status store.Memory = 4
 store_status _ = 3
 
--- of a slice's checkpoints
-abbrev pub slice_status : SliceError → ℕ
-slice_status slice.Memory = 4
-slice_status _ = 3
-
 -- of its step
 abbrev pub round_status : StepError → ℕ
 round_status round.Workers = 4
@@ -49,16 +40,13 @@ step_status (step.Step error) = round_status error
 step_status step.Memory = 4
 step_status _ = 3
 
-abbrev pub part_status : SliceRunError → ℕ
-part_status (part.Checkpoints error) = slice_status error
-part_status (part.Step error) = step_status error
-part_status part.TooMany = 3
-
-abbrev pub run_status : DurableError → ℕ
-run_status (run.Store error) = store_status error
-run_status (run.Run error) = part_status error
-run_status run.TooMany = 3
-run_status run.Stopped = 2
+-- of its run
+abbrev pub run_status : SliceError → ℕ
+run_status (slice.Store error) = store_status error
+run_status (slice.Step error) = step_status error
+run_status slice.Stopped = 2
+run_status slice.Memory = 4
+run_status _ = 3
 
 -- of the input and the results
 abbrev pub rows_status : RowsError → ℕ

@@ -5,7 +5,7 @@ ghost use Rattle.jb_csv_job.specs.declared.failure.CsvJobError.TheVariants.{Memo
 
 use jb_rows::RowsError;
 use jb_slice_file::StoreError;
-use jb_slice_run::DurableError;
+use jb_slice_run::SliceError;
 use std::alloc::{AllocError, AllocFailed};
 use std::io;
 use thiserror::Error;
@@ -67,7 +67,7 @@ pub enum CsvJobError {
     File { slice: u64, error: StoreError },
     /// The run of a slice has no end.
     #[error("slice {slice}: {error}")]
-    Slice { slice: u64, error: DurableError },
+    Slice { slice: u64, error: SliceError },
     /// A slice is to be collected, and isn't whole.
     #[error("slice {slice} isn't whole")]
     NotWhole { slice: u64 },

@@ -1,13 +1,13 @@
 //! The exit status if a job has no answer.
 
 ghost use Rattle.std.specs.Prelude.{◌≡◌};
-ghost use Rattle.jb_csv_job.specs.Statuses.{failure_status, part_status, rows_status, run_status, step_status, store_status};
+ghost use Rattle.jb_csv_job.specs.Statuses.{failure_status, rows_status, run_status, step_status, store_status};
 
 use crate::failure::{CsvJobError, FolderFault, OutputFault};
 use jb_records::RecordsStepError;
 use jb_rows::RowsError;
 use jb_slice_file::StoreError;
-use jb_slice_run::{DurableError, SliceError, SliceRunError};
+use jb_slice_run::SliceError;
 use jb_step::StepError;
 
 /// The same line won't help.
@@ -47,24 +47,15 @@ fn step_status(error: &RecordsStepError) -> u8
     }
 }
 
-fn part_status(error: &SliceRunError) -> u8
-    ensures { result ≡ part_status error.now }
-{
-    match error {
-        SliceRunError::Checkpoints(SliceError::Memory) => LATER,
-        SliceRunError::Step(error) => step_status(error),
-        _ => REFUSED,
-    }
-}
-
-fn run_status(error: &DurableError) -> u8
+fn run_status(error: &SliceError) -> u8
     ensures { result ≡ run_status error.now }
 {
     match error {
-        DurableError::Store(error) => store_status(error),
-        DurableError::Run(error) => part_status(error),
-        DurableError::TooMany => REFUSED,
-        DurableError::Stopped => STOPPED,
+        SliceError::Store(error) => store_status(error),
+        SliceError::Step(error) => step_status(error),
+        SliceError::Stopped => STOPPED,
+        SliceError::Memory => LATER,
+        _ => REFUSED,
     }
 }
 

@@ -62,7 +62,6 @@ pub use laws::crashes_are_resumed;
 pub use opening::ready_folder;
 pub use output::Output;
 pub use path::SlicePath;
-pub use report::Reporter;
 pub use run::{JobEnd, run_csv_job, run_slices};
 pub use sink::{CsvSink, Sink};
 pub use skipped::{begin_list, close_list, end_list, open_list};

@@ -1,18 +1,15 @@
 //! One slice more of a job.
 
-ghost use Rattle.std.specs.Prelude.{◌≡◌, ◌⊎◌, ℕ, suc, false, true, List, IfErr, IfOk, IsTrue, map};
+ghost use Rattle.std.specs.Prelude.{◌≡◌, ◌⊎◌, ◌&&◌, ℕ, suc, false, true, List, IfErr, IfOk, IsTrue, map, not};
 ghost use Rattle.std.specs.Arc.{arc_value};
-ghost use Rattle.sqlite_wal.specs.Recovery.{Image};
 ghost use Rattle.jb_collect.specs.declared.calls.Status.TheVariants.{Completed, Failed};
 ghost use Rattle.jb_rows.specs.Fields.{Fields, packed};
 ghost use Rattle.jb_rows.specs.Texts.{AreRowsOf};
-ghost use Rattle.jb_slice_run.specs.Step.{AreStampsOf};
 ghost use Rattle.jb_slices.specs.Function.{Function};
 ghost use Rattle.jb_slices.specs.Job.{HasSlice, IsLastSlice, slice_at};
-ghost use Rattle.jb_slices.specs.Slice.{Functions};
-ghost use Rattle.jb_csv_job.specs.Job.{identity_of, job_record, stamps_of};
-ghost use Rattle.jb_csv_job.specs.SliceFiles.{HoldsSlice, image_by, slice_of};
-ghost use Rattle.jb_csv_job.specs.Loop.{AreDone, HasGoneOn, IsLeft, IsOver, IsSliceOfText, StandsBefore};
+ghost use Rattle.jb_csv_job.specs.Job.{identity_of};
+ghost use Rattle.jb_csv_job.specs.SliceFiles.{image_by};
+ghost use Rattle.jb_csv_job.specs.Loop.{AreDone, AreOfText, HasGoneOn, IfSliceResumes, IsOver, LeavesOne, StandsBefore, job_of};
 ghost use Rattle.jb_csv_job.specs.Skipped.{AreListed, IfListed};
 ghost use Rattle.jb_csv_job.specs.Slices.{IsSliceEnd};
 ghost use Rattle.jb_csv_job.specs.Tasks.{is_own as is_own_of};
@@ -47,9 +44,9 @@ fn settle<N: Sink>(
 ) -> Result<bool, CsvJobError>
     requires { (end.now.status ≡ Completed) ⊎ (end.now.status ≡ Failed) }
     ensures goes { (f : Function) (items : List (List ℕ)) (number : ℕ) → is_own_of work.now.asked.now.task number ≡ true → HasSlice (identity_of work.now.job.now) items number
-        → IsSliceEnd (job_record work.now.job.now work.now.asked.now f) number (slice_at (identity_of work.now.job.now) items number) end.now
-        → (start : N) (taken : List (List ℕ)) → N.took start sink.old taken → AreDone (job_record work.now.job.now work.now.asked.now f) items number tally.old taken
-        → IfOk result (λ more. (now : List (List ℕ)) × N.took start sink.new now × AreDone (job_record work.now.job.now work.now.asked.now f) items (suc number) tally.new now × (more ≡ false → tally.new.is_failed ≡ true)) }
+        → IsSliceEnd (job_of work.now f) number (slice_at (identity_of work.now.job.now) items number) end.now
+        → (start : N) (taken : List (List ℕ)) → N.took start sink.old taken → AreDone (job_of work.now f) items number tally.old taken
+        → IfOk result (λ more. (now : List (List ℕ)) × N.took start sink.new now × AreDone (job_of work.now f) items (suc number) tally.new now × (more ≡ false → tally.new.is_failed ≡ true)) }
     ensures fine { IfOk result (λ _. tally.new.is_failed ≡ false → (tally.old.is_failed ≡ false) × (end.now.status ≡ Completed)) }
     ensures over { IfOk result (λ more. more ≡ false → IsOver work.now.job.now.job_skip_limit tally.new.skips) }
     ensures kept { IfErr result (λ e. N.may_refuse e ⊎ (sink.new ≡ sink.old)) }
@@ -62,6 +59,13 @@ fn settle<N: Sink>(
         Seam::Keeps => Ok(true),
         Seam::Ends => Ok(false),
     }
+}
+
+/// Whether there is another slice to be run.
+fn is_more(is_last: bool, goes_on: bool) -> bool
+    ensures { result ≡ (not is_last && goes_on) }
+{
+    !is_last && goes_on
 }
 
 /// Reads the next slice, runs it where it is one of the task's own, and gives its results to the sink; and whether there is another one to be
@@ -89,46 +93,35 @@ pub(crate) fn next_slice<
 ) -> Result<bool, CsvJobError>
     // The reader is at the next slice.
     ensures reads { (text : List ℕ) (records : List Fields) → AreRowsOf work.now.job.now.options text records
-        → StandsBefore (job_record work.now.job.now work.now.asked.now (F.answer (arc_value function.now))) R.remaining text records number reader.old
-        → IfOk result (λ more. more ≡ true → StandsBefore (job_record work.now.job.now work.now.asked.now (F.answer (arc_value function.now))) R.remaining text records (suc number) reader.new) }
+        → StandsBefore (job_of work.now (F.answer (arc_value function.now))) R.remaining text records number reader.old
+        → IfOk result (λ more. more ≡ true → StandsBefore (job_of work.now (F.answer (arc_value function.now))) R.remaining text records (suc number) reader.new) }
 
     // And so is the job.
-    ensures goes { IsTrue (K.are_clean keeper.new) → (functions : Functions) → AreStampsOf functions (F.answer (arc_value function.now)) (stamps_of work.now.job.now work.now.asked.now)
-        → (text : List ℕ) (records : List Fields) → AreRowsOf work.now.job.now.options text records
-        → StandsBefore (job_record work.now.job.now work.now.asked.now (F.answer (arc_value function.now))) R.remaining text records number reader.old
-        → (is_own_of work.now.asked.now.task number ≡ true
-        → HoldsSlice (job_record work.now.job.now work.now.asked.now (F.answer (arc_value function.now))) functions number (slice_of (job_record work.now.job.now work.now.asked.now (F.answer (arc_value function.now))) records number) (image_by H.log H.db number))
-        → (start : N) (taken : List (List ℕ)) → N.took start sink.old taken
-        → AreDone (job_record work.now.job.now work.now.asked.now (F.answer (arc_value function.now))) (map packed records) number tally.old taken
-        → IfOk result (λ more. (now : List (List ℕ)) × N.took start sink.new now × HasGoneOn (job_record work.now.job.now work.now.asked.now (F.answer (arc_value function.now))) (map packed records) number tally.new now more) }
+    ensures goes { IsTrue (K.are_clean keeper.new) → IfSliceResumes (job_of work.now (F.answer (arc_value function.now))) R.remaining reader.old H.log H.db number (λ functions text records.
+        (start : N) (taken : List (List ℕ)) → N.took start sink.old taken
+        → AreDone (job_of work.now (F.answer (arc_value function.now))) (map packed records) number tally.old taken
+        → IfOk result (λ more. (now : List (List ℕ)) × N.took start sink.new now × HasGoneOn (job_of work.now (F.answer (arc_value function.now))) (map packed records) number tally.new now more)) }
 
     // There is no more only after the last slice, or where more were skipped than the job's limit.
     ensures lasts { (text : List ℕ) (records : List Fields) → AreRowsOf work.now.job.now.options text records
-        → StandsBefore (job_record work.now.job.now work.now.asked.now (F.answer (arc_value function.now))) R.remaining text records number reader.old
+        → StandsBefore (job_of work.now (F.answer (arc_value function.now))) R.remaining text records number reader.old
         → IfOk result (λ more. more ≡ false → IsLastSlice (identity_of work.now.job.now) (map packed records) number ⊎ IsOver work.now.job.now.job_skip_limit tally.new.skips) }
 
     // The list, if there is one, has the rows of the slice too.
-    ensures lists { IsTrue (K.are_clean keeper.new) → (functions : Functions) → AreStampsOf functions (F.answer (arc_value function.now)) (stamps_of work.now.job.now work.now.asked.now)
-        → (text : List ℕ) (records : List Fields) → AreRowsOf work.now.job.now.options text records
-        → StandsBefore (job_record work.now.job.now work.now.asked.now (F.answer (arc_value function.now))) R.remaining text records number reader.old
-        → (is_own_of work.now.asked.now.task number ≡ true
-        → HoldsSlice (job_record work.now.job.now work.now.asked.now (F.answer (arc_value function.now))) functions number (slice_of (job_record work.now.job.now work.now.asked.now (F.answer (arc_value function.now))) records number) (image_by H.log H.db number))
-        → IfOk result (λ more. IfListed list.old list.new (λ old new. (start : L) (rows : List (List ℕ)) → L.took start old rows
-        → AreListed (job_record work.now.job.now work.now.asked.now (F.answer (arc_value function.now))) text records number tally.old.is_failed rows
-        → (now : List (List ℕ)) × L.took start new now × AreListed (job_record work.now.job.now work.now.asked.now (F.answer (arc_value function.now))) text records (suc number) tally.new.is_failed now)) }
+    ensures lists { IsTrue (K.are_clean keeper.new) → IfSliceResumes (job_of work.now (F.answer (arc_value function.now))) R.remaining reader.old H.log H.db number (λ functions text records.
+        IfOk result (λ more. IfListed list.old list.new (λ old new. (start : L) (rows : List (List ℕ)) → L.took start old rows
+        → AreListed (job_of work.now (F.answer (arc_value function.now))) text records number tally.old.is_failed rows
+        → (now : List (List ℕ)) × L.took start new now × AreListed (job_of work.now (F.answer (arc_value function.now))) text records (suc number) tally.new.is_failed now))) }
 
     // After an error that isn't the sink's own it is as it was.
     ensures kept { IfErr result (λ e. N.may_refuse e ⊎ (sink.new ≡ sink.old)) }
     ensures clean { IsTrue (K.are_clean keeper.new) → IsTrue (K.are_clean keeper.old) }
 
     // What a crash leaves of the files of this slice.
-    ensures crash { IsTrue (K.are_clean keeper.new) → (functions : Functions) → AreStampsOf functions (F.answer (arc_value function.now)) (stamps_of work.now.job.now work.now.asked.now)
-        → (k : ℕ) (read : List (List ℕ)) (image : Image) → K.may_leave keeper.new k read image
-        → IsLeft (job_record work.now.job.now work.now.asked.now (F.answer (arc_value function.now))) functions (image_by H.log H.db number) number (map packed rows.new) (K.may_leave keeper.old k read image) k read image }
+    ensures crash { IsTrue (K.are_clean keeper.new) → LeavesOne (job_of work.now (F.answer (arc_value function.now))) (image_by H.log H.db number) number (map packed rows.new) (K.may_leave keeper.old) (K.may_leave keeper.new) }
     ensures items { IsTrue (K.are_clean keeper.new) → (text : List ℕ) (records : List Fields) → AreRowsOf work.now.job.now.options text records
-        → StandsBefore (job_record work.now.job.now work.now.asked.now (F.answer (arc_value function.now))) R.remaining text records number reader.old
-        → (k : ℕ) (read : List (List ℕ)) (image : Image) → K.may_leave keeper.new k read image
-        → IsSliceOfText (job_record work.now.job.now work.now.asked.now (F.answer (arc_value function.now))) records (K.may_leave keeper.old k read image) k read }
+        → StandsBefore (job_of work.now (F.answer (arc_value function.now))) R.remaining text records number reader.old
+        → AreOfText (job_of work.now (F.answer (arc_value function.now))) records (K.may_leave keeper.old) (K.may_leave keeper.new) }
 {
     let is_last = read_slice(work, reader, rows, tally)?;
     if !is_own(work.asked.task, number) {
@@ -165,8 +158,5 @@ pub(crate) fn next_slice<
         &end,
     )?;
     let goes_on = settle(work, &end, sink, tally)?;
-    if is_last {
-        return Ok(false);
-    }
-    Ok(goes_on)
+    Ok(is_more(is_last, goes_on))
 }

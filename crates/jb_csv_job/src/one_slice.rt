@@ -10,16 +10,15 @@ ghost use Rattle.sqlite_wal.specs.Files.{image_at, outcomes};
 ghost use Rattle.sqlite_wal.specs.Reads.{AreClean};
 ghost use Rattle.sqlite_wal.specs.Recovery.{Image};
 ghost use Rattle.jb_collect.specs.declared.calls.Status.TheVariants.{Completed, Failed};
-ghost use Rattle.jb_slice_run.specs.durable.Work.{IfResumed};
 ghost use Rattle.jb_slice_file.specs.Connections.{IsJustOpened};
-ghost use Rattle.jb_slice_file.specs.Files.{HoldsRun, HasRunCheckpoints};
+ghost use Rattle.jb_slice_file.specs.Files.{HoldsRun};
 ghost use Rattle.jb_slice_file.specs.Rows.{Has, ShowsList};
 ghost use Rattle.jb_slice_run.specs.Step.{AreStampsOf};
 ghost use Rattle.jb_slices.specs.Slice.{Functions};
-ghost use Rattle.jb_csv_job.specs.Job.{job_record, stamps_of};
+ghost use Rattle.jb_csv_job.specs.Job.{stamps_of};
 ghost use Rattle.jb_csv_job.specs.SliceFiles.{HoldsSlice, KeepsOwn};
-ghost use Rattle.jb_csv_job.specs.Loop.{IsLeft};
-ghost use Rattle.jb_csv_job.specs.Slices.{IsSliceEnd};
+ghost use Rattle.jb_csv_job.specs.Loop.{LeavesOne, job_of};
+ghost use Rattle.jb_csv_job.specs.Slices.{EndsResumed, IsSliceEnd, LeavesResumed};
 
 use crate::asked::Task;
 use crate::failure::CsvJobError;
@@ -35,7 +34,7 @@ use crate::work::Work;
 use jb_base::PackedList;
 use jb_rows::RowFunction;
 use jb_slice_file::{closed, connect};
-use jb_slice_run::{ASecond, DurableError, SliceEnd, collect_slice, run_slice};
+use jb_slice_run::{ASecond, SliceEnd, SliceError, collect_slice, run_slice};
 use sqlite::{Alter, Connection, FileFrom, FileStore, Files, Start};
 use sqlite_disk::Disk;
 use std::alloc::Global;
@@ -59,13 +58,10 @@ fn ran<
     function: &Arc<F, Global>,
     items: &PackedList,
 ) -> Result<SliceEnd, CsvJobError>
-    ensures ended { IfResumed work.now.slice (F.answer (arc_value function.now)) number items.now (state S.Store conn.old) (state S.Store conn.new) (λ w all.
-        IfOk result (IsSliceEnd (job_record work.now.job.now work.now.asked.now (F.answer (arc_value function.now))) number items.now)) }
+    ensures ended { EndsResumed work.now.slice (job_of work.now (F.answer (arc_value function.now))) number items.now (state S.Store conn.old) (state S.Store conn.new) result }
     ensures status { IfOk result (λ end. (end.status ≡ Completed) ⊎ (end.status ≡ Failed)) }
     ensures clean { doubt (state S.Store conn.old).is_clean ≤ doubt (state S.Store conn.new).is_clean }
-    ensures crash { IfResumed work.now.slice (F.answer (arc_value function.now)) number items.now (state S.Store conn.old) (state S.Store conn.new) (λ w all.
-        (db : _) → (state S.Store conn.new).may_leave db
-        → HasRunCheckpoints (λ kept. KeepsOwn (job_record work.now.job.now work.now.asked.now (F.answer (arc_value function.now))) w.functions number items.now kept) db) }
+    ensures crash { LeavesResumed work.now.slice (job_of work.now (F.answer (arc_value function.now))) number items.now (state S.Store conn.old) (state S.Store conn.new) }
 {
     let listener = StderrProgress {
         rt: *rt,
@@ -106,13 +102,10 @@ fn collected<F: RowFunction + Drop + 'static, S: Alter>(
     function: &Arc<F, Global>,
     items: &PackedList,
 ) -> Result<SliceEnd, CsvJobError>
-    ensures ended { IfResumed work.now.slice (F.answer (arc_value function.now)) number items.now (state S.Store conn.old) (state S.Store conn.new) (λ w all.
-        IfOk result (IsSliceEnd (job_record work.now.job.now work.now.asked.now (F.answer (arc_value function.now))) number items.now)) }
+    ensures ended { EndsResumed work.now.slice (job_of work.now (F.answer (arc_value function.now))) number items.now (state S.Store conn.old) (state S.Store conn.new) result }
     ensures status { IfOk result (λ end. (end.status ≡ Completed) ⊎ (end.status ≡ Failed)) }
     ensures clean { doubt (state S.Store conn.old).is_clean ≤ doubt (state S.Store conn.new).is_clean }
-    ensures crash { IfResumed work.now.slice (F.answer (arc_value function.now)) number items.now (state S.Store conn.old) (state S.Store conn.new) (λ w all.
-        (db : _) → (state S.Store conn.new).may_leave db
-        → HasRunCheckpoints (λ kept. KeepsOwn (job_record work.now.job.now work.now.asked.now (F.answer (arc_value function.now))) w.functions number items.now kept) db) }
+    ensures crash { LeavesResumed work.now.slice (job_of work.now (F.answer (arc_value function.now))) number items.now (state S.Store conn.old) (state S.Store conn.new) }
 {
     match collect_slice(alloc, conn, &work.slice, number, function, items) {
         Ok(Some(end)) => Ok(end),
@@ -140,13 +133,10 @@ fn answered<
     function: &Arc<F, Global>,
     items: &PackedList,
 ) -> Result<SliceEnd, CsvJobError>
-    ensures ended { IfResumed work.now.slice (F.answer (arc_value function.now)) number items.now (state S.Store conn.old) (state S.Store conn.new) (λ w all.
-        IfOk result (IsSliceEnd (job_record work.now.job.now work.now.asked.now (F.answer (arc_value function.now))) number items.now)) }
+    ensures ended { EndsResumed work.now.slice (job_of work.now (F.answer (arc_value function.now))) number items.now (state S.Store conn.old) (state S.Store conn.new) result }
     ensures status { IfOk result (λ end. (end.status ≡ Completed) ⊎ (end.status ≡ Failed)) }
     ensures clean { doubt (state S.Store conn.old).is_clean ≤ doubt (state S.Store conn.new).is_clean }
-    ensures crash { IfResumed work.now.slice (F.answer (arc_value function.now)) number items.now (state S.Store conn.old) (state S.Store conn.new) (λ w all.
-        (db : _) → (state S.Store conn.new).may_leave db
-        → HasRunCheckpoints (λ kept. KeepsOwn (job_record work.now.job.now work.now.asked.now (F.answer (arc_value function.now))) w.functions number items.now kept) db) }
+    ensures crash { LeavesResumed work.now.slice (job_of work.now (F.answer (arc_value function.now))) number items.now (state S.Store conn.old) (state S.Store conn.new) }
 {
     if is_collected(work) {
         return collected(alloc, conn, work, number, function, items);
@@ -185,7 +175,7 @@ fn opened<S: Start>(
     if is_stopped(host, folder) {
         return Err(CsvJobError::Slice {
             slice: number,
-            error: DurableError::Stopped,
+            error: SliceError::Stopped,
         });
     }
     let path = slice_path(host.alloc(), folder, number)?;
@@ -225,15 +215,15 @@ pub(crate) fn run_slice_at<
 ) -> Result<(Files<FileFrom<S>>, Result<SliceEnd, CsvJobError>), CsvJobError>
     // Over files that held the slice so far, or nothing, it ends by what it says of its items.
     ensures ended { IfOk result (λ r. AreClean ⟦<FileFrom<S> as Disk>⟧ r.0.log r.0.db → (functions : Functions) → AreStampsOf functions (F.answer (arc_value function.now)) (stamps_of work.now.job.now work.now.asked.now)
-        → HoldsSlice (job_record work.now.job.now work.now.asked.now (F.answer (arc_value function.now))) functions number items.now (image_at S.Start)
-        → IfOk r.1 (IsSliceEnd (job_record work.now.job.now work.now.asked.now (F.answer (arc_value function.now))) number items.now)) }
+        → HoldsSlice (job_of work.now (F.answer (arc_value function.now))) functions number items.now (image_at S.Start)
+        → IfOk r.1 (IsSliceEnd (job_of work.now (F.answer (arc_value function.now))) number items.now)) }
     ensures status { IfOk result (λ r. IfOk r.1 (λ end. (end.status ≡ Completed) ⊎ (end.status ≡ Failed))) }
 
     // Whatever a crash leaves of them holds the slice so far again.
     ensures crash { IfOk result (λ r. AreClean ⟦<FileFrom<S> as Disk>⟧ r.0.log r.0.db → (functions : Functions) → AreStampsOf functions (F.answer (arc_value function.now)) (stamps_of work.now.job.now work.now.asked.now)
-        → HoldsSlice (job_record work.now.job.now work.now.asked.now (F.answer (arc_value function.now))) functions number items.now (image_at S.Start)
+        → HoldsSlice (job_of work.now (F.answer (arc_value function.now))) functions number items.now (image_at S.Start)
         → (image : Image) → outcomes ⟦<FileFrom<S> as Disk>⟧ r.0.log r.0.db image
-        → HoldsRun (KeepsOwn (job_record work.now.job.now work.now.asked.now (F.answer (arc_value function.now))) functions number items.now) image) }
+        → HoldsRun (KeepsOwn (job_of work.now (F.answer (arc_value function.now))) functions number items.now) image) }
 {
     let host = rt.host();
     let mut conn = opened(host, work, number, start)?;
@@ -268,13 +258,11 @@ pub(crate) fn kept_slice<
     keeper: &mut K,
 ) -> Result<SliceEnd, CsvJobError>
     ensures ended { IsTrue (K.are_clean keeper.new) → (functions : Functions) → AreStampsOf functions (F.answer (arc_value function.now)) (stamps_of work.now.job.now work.now.asked.now)
-        → HoldsSlice (job_record work.now.job.now work.now.asked.now (F.answer (arc_value function.now))) functions number items.now (record { log = G.log; db = G.db })
-        → IfOk result (IsSliceEnd (job_record work.now.job.now work.now.asked.now (F.answer (arc_value function.now))) number items.now) }
+        → HoldsSlice (job_of work.now (F.answer (arc_value function.now))) functions number items.now (record { log = G.log; db = G.db })
+        → IfOk result (IsSliceEnd (job_of work.now (F.answer (arc_value function.now))) number items.now) }
     ensures status { IfOk result (λ end. (end.status ≡ Completed) ⊎ (end.status ≡ Failed)) }
     ensures clean { IsTrue (K.are_clean keeper.new) → IsTrue (K.are_clean keeper.old) }
-    ensures crash { IsTrue (K.are_clean keeper.new) → (functions : Functions) → AreStampsOf functions (F.answer (arc_value function.now)) (stamps_of work.now.job.now work.now.asked.now)
-        → (k : ℕ) (read : List (List ℕ)) (image : Image) → K.may_leave keeper.new k read image
-        → IsLeft (job_record work.now.job.now work.now.asked.now (F.answer (arc_value function.now))) functions (record { log = G.log; db = G.db }) number items.now (K.may_leave keeper.old k read image) k read image }
+    ensures crash { IsTrue (K.are_clean keeper.new) → LeavesOne (job_of work.now (F.answer (arc_value function.now))) (record { log = G.log; db = G.db }) number items.now (K.may_leave keeper.old) (K.may_leave keeper.new) }
     ensures items { IsTrue (K.are_clean keeper.new) → (k : ℕ) (read : List (List ℕ)) (image : Image) → K.may_leave keeper.new k read image
         → K.may_leave keeper.old k read image ⊎ ((k ≡ number) × (read ≡ items.now)) }
 {

@@ -6,8 +6,7 @@ ghost use Rattle.jb_rows.specs.Places.{AreLinesFrom};
 ghost use Rattle.jb_rows.specs.Streams.{HasGivenRows, lines_of};
 ghost use Rattle.jb_rows.specs.Texts.{AreRowsOf};
 ghost use Rattle.jb_slices.specs.Function.{Function};
-ghost use Rattle.jb_csv_job.specs.Job.{job_record};
-ghost use Rattle.jb_csv_job.specs.Loop.{IsSliceRead, StandsBefore};
+ghost use Rattle.jb_csv_job.specs.Loop.{IsSliceRead, StandsBefore, job_of};
 
 use crate::failure::CsvJobError;
 use crate::tally::Tally;
@@ -25,8 +24,8 @@ pub(crate) fn read_slice<R: Read>(
     tally: &mut Tally,
 ) -> Result<bool, CsvJobError>
     ensures read { (f : Function) (text : List ℕ) (records : List Fields) (number : ℕ) → AreRowsOf work.now.job.now.options text records
-        → StandsBefore (job_record work.now.job.now work.now.asked.now f) R.remaining text records number reader.old
-        → IfOk result (IsSliceRead (job_record work.now.job.now work.now.asked.now f) R.remaining text records number reader.new rows.new) }
+        → StandsBefore (job_of work.now f) R.remaining text records number reader.old
+        → IfOk result (IsSliceRead (job_of work.now f) R.remaining text records number reader.new rows.new) }
     ensures lines { (text : List ℕ) (before : List Fields) → HasGivenRows work.now.job.now.options R.remaining reader.old text before
         → AreLinesFrom work.now.job.now.options text (length before) (lines_of reader.new) }
     ensures counted { OnOk result (length (lines_of reader.new) ≡ length rows.new) }

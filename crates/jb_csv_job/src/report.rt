@@ -1,6 +1,6 @@
 //! Which records were skipped, and which failed.
 
-ghost use Rattle.std.specs.Prelude.{◌≡◌, ◌+◌, ◌≤◌, length, OnOk};
+ghost use Rattle.std.specs.Prelude.{◌≡◌, ◌+◌};
 ghost use Rattle.jb_csv_job.specs.Reports.{line_at, named_skips};
 
 use crate::history::{Event, note, skips_by_class};
@@ -112,7 +112,7 @@ fn named_of(before: u64, skips: &[Fault]) -> &[Fault]
 /// Reports on standard error which records were skipped, and which failed. The first ten skipped ones of the job are named, and the others
 /// counted.
 #[derive(Drop)]
-pub struct Reporter {
+pub(crate) struct Reporter {
     /// How many records were skipped so far.
     skips: u64,
     meter: Meter,
@@ -120,7 +120,7 @@ pub struct Reporter {
 
 impl Reporter {
     /// Of a run that begins now.
-    pub fn new<T: Clock>(rt: &T) -> Reporter {
+    pub(crate) fn new<T: Clock>(rt: &T) -> Reporter {
         Reporter {
             skips: 0,
             meter: Meter::new(rt),
@@ -140,7 +140,7 @@ impl Reporter {
     }
 
     /// Reports the end of a slice, and writes it to the history of FOLDER. `lines` has the line of each of its records.
-    pub fn report<T: Eprint + Host>(
+    pub(crate) fn report<T: Eprint + Host>(
         &mut self,
         rt: &T,
         job: &CsvJob,
@@ -167,7 +167,7 @@ impl Reporter {
     }
 
     /// Reports how many skipped records weren't named.
-    pub fn finish<T: Eprint + Host>(&self, rt: &T, job: &CsvJob) {
+    pub(crate) fn finish<T: Eprint + Host>(&self, rt: &T, job: &CsvJob) {
         let others = self.skips.saturating_sub(MOST_NAMED);
         if others > 0 {
             clear_line(rt);

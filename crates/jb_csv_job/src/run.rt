@@ -3,13 +3,11 @@
 ghost use Rattle.std.specs.Prelude.{◌≡◌, ◌⊎◌, ℕ, Some, List, IfOk, IsTrue, MatchResult};
 ghost use Rattle.std.specs.Arc.{arc_value};
 ghost use Rattle.sqlite_wal.specs.Recovery.{Image};
-ghost use Rattle.jb_slice_file.specs.Files.{HoldsRun};
-ghost use Rattle.jb_slice_run.specs.Step.{AreStampsOf};
 ghost use Rattle.jb_slices.specs.Slice.{Functions};
 ghost use Rattle.jb_csv_job.specs.Done.{HasEnded, HasSkipped, HasTakenAll, HasTakenSoFar, IsByRules, IsDoneSoFar, IsJobDone};
-ghost use Rattle.jb_csv_job.specs.Job.{job_record, stamps_of};
-ghost use Rattle.jb_csv_job.specs.SliceFiles.{HoldsSlice, CanResumeJob, KeepsOwn, LeavesSlice, image_by};
-ghost use Rattle.jb_csv_job.specs.Loop.{IfJobResumes, IsLeftOfAny};
+ghost use Rattle.jb_csv_job.specs.Job.{job_record};
+ghost use Rattle.jb_csv_job.specs.SliceFiles.{CanResumeJob, LeavesJob, LeavesSlice};
+ghost use Rattle.jb_csv_job.specs.Loop.{IfJobResumes, LeavesAny, job_of};
 ghost use Rattle.jb_csv_job.specs.Skipped.{HasListed, IfListed, IsListWritten};
 
 use crate::asked::Asked;
@@ -64,20 +62,17 @@ fn all_slices<
     list: &mut Option<L>,
     keeper: &mut K,
 ) -> Result<JobEnd, CsvJobError>
-    ensures ends { IsTrue (K.are_clean keeper.new) → IfJobResumes (job_record work.now.job.now work.now.asked.now (F.answer (arc_value function.now))) R.remaining reader.old H.log H.db (λ functions text.
-        IfOk result (λ end. HasEnded (job_record work.now.job.now work.now.asked.now (F.answer (arc_value function.now))) (Some text) (N.took sink.old sink.new) end.status end.skips)) }
-    ensures lists { IsTrue (K.are_clean keeper.new) → IfJobResumes (job_record work.now.job.now work.now.asked.now (F.answer (arc_value function.now))) R.remaining reader.old H.log H.db (λ functions text.
-        IfOk result (λ end. IfListed list.old list.new (λ old new. HasListed (job_record work.now.job.now work.now.asked.now (F.answer (arc_value function.now))) (Some text) (L.took old new) end.status end.skips))) }
-    ensures so_far { IsTrue (K.are_clean keeper.new) → IfJobResumes (job_record work.now.job.now work.now.asked.now (F.answer (arc_value function.now))) R.remaining reader.old H.log H.db (λ functions text.
-        MatchResult result (λ end. HasTakenSoFar (job_record work.now.job.now work.now.asked.now (F.answer (arc_value function.now))) (Some text) (N.took sink.old sink.new)) (λ e. N.may_refuse e ⊎ HasTakenSoFar (job_record work.now.job.now work.now.asked.now (F.answer (arc_value function.now))) (Some text) (N.took sink.old sink.new))) }
+    ensures ends { IsTrue (K.are_clean keeper.new) → IfJobResumes (job_of work.now (F.answer (arc_value function.now))) R.remaining reader.old H.log H.db (λ functions text.
+        IfOk result (λ end. HasEnded (job_of work.now (F.answer (arc_value function.now))) (Some text) (N.took sink.old sink.new) end.status end.skips)) }
+    ensures lists { IsTrue (K.are_clean keeper.new) → IfJobResumes (job_of work.now (F.answer (arc_value function.now))) R.remaining reader.old H.log H.db (λ functions text.
+        IfOk result (λ end. IfListed list.old list.new (λ old new. HasListed (job_of work.now (F.answer (arc_value function.now))) (Some text) (L.took old new) end.status end.skips))) }
+    ensures so_far { IsTrue (K.are_clean keeper.new) → IfJobResumes (job_of work.now (F.answer (arc_value function.now))) R.remaining reader.old H.log H.db (λ functions text.
+        MatchResult result (λ end. HasTakenSoFar (job_of work.now (F.answer (arc_value function.now))) (Some text) (N.took sink.old sink.new)) (λ e. N.may_refuse e ⊎ HasTakenSoFar (job_of work.now (F.answer (arc_value function.now))) (Some text) (N.took sink.old sink.new))) }
     ensures status { IfOk result (λ end. (end.status ≡ 0) ⊎ (end.status ≡ 1)) }
     ensures clean { IsTrue (K.are_clean keeper.new) → IsTrue (K.are_clean keeper.old) }
-    ensures left { IsTrue (K.are_clean keeper.new) → IfJobResumes (job_record work.now.job.now work.now.asked.now (F.answer (arc_value function.now))) R.remaining reader.old H.log H.db (λ functions text.
-        (k : ℕ) (items : List (List ℕ)) (image : Image) → K.may_leave keeper.new k items image
-        → K.may_leave keeper.old k items image ⊎ LeavesSlice (job_record work.now.job.now work.now.asked.now (F.answer (arc_value function.now))) functions (Some text) k image) }
-    ensures crash { IsTrue (K.are_clean keeper.new) → (functions : Functions) → AreStampsOf functions (F.answer (arc_value function.now)) (stamps_of work.now.job.now work.now.asked.now)
-        → (k : ℕ) (items : List (List ℕ)) (image : Image) → K.may_leave keeper.new k items image
-        → IsLeftOfAny (job_record work.now.job.now work.now.asked.now (F.answer (arc_value function.now))) functions (image_by H.log H.db) (K.may_leave keeper.old k items image) k items image }
+    ensures left { IsTrue (K.are_clean keeper.new) → IfJobResumes (job_of work.now (F.answer (arc_value function.now))) R.remaining reader.old H.log H.db (λ functions text.
+        LeavesJob (job_of work.now (F.answer (arc_value function.now))) functions (Some text) (K.may_leave keeper.old) (K.may_leave keeper.new)) }
+    ensures crash { IsTrue (K.are_clean keeper.new) → LeavesAny (job_of work.now (F.answer (arc_value function.now))) H.log H.db (K.may_leave keeper.old) (K.may_leave keeper.new) }
 {
     let mut rows = Rows::new(rt.host().alloc());
     let mut reporter = Reporter::new(rt);
@@ -163,14 +158,10 @@ pub fn run_slices<
 
     // Whatever a crash leaves of a slice's files holds that slice of the text so far again.
     ensures left { IsTrue (K.are_clean keeper.new) → IfJobResumes (job_record job.now asked.now (F.answer function)) R.remaining reader.old H.log H.db (λ functions text.
-        (k : ℕ) (items : List (List ℕ)) (image : Image) → K.may_leave keeper.new k items image
-        → K.may_leave keeper.old k items image ⊎ LeavesSlice (job_record job.now asked.now (F.answer function)) functions (Some text) k image) }
+        LeavesJob (job_record job.now asked.now (F.answer function)) functions (Some text) (K.may_leave keeper.old) (K.may_leave keeper.new)) }
 
     // And where the bytes of the stream aren't known, the slice so far of the items that were read.
-    ensures crash { IsTrue (K.are_clean keeper.new) → (functions : Functions) → AreStampsOf functions (F.answer function) (stamps_of job.now asked.now)
-        → (k : ℕ) (items : List (List ℕ)) (image : Image) → K.may_leave keeper.new k items image
-        → K.may_leave keeper.old k items image ⊎ (HoldsSlice (job_record job.now asked.now (F.answer function)) functions k items (image_by H.log H.db k)
-        → HoldsRun (KeepsOwn (job_record job.now asked.now (F.answer function)) functions k items) image) }
+    ensures crash { IsTrue (K.are_clean keeper.new) → LeavesAny (job_record job.now asked.now (F.answer function)) H.log H.db (K.may_leave keeper.old) (K.may_leave keeper.new) }
 {
     let alloc = rt.host().alloc();
     let name = name_of(alloc, job)?;
@@ -237,10 +228,7 @@ pub fn run_csv_job<
         → K.may_leave keeper.old k items image ⊎ LeavesSlice (job_record job.now asked.now (F.answer function)) functions (R.remaining from) k image }
 
     // And where the bytes of the stream aren't known, the slice so far of the items that were read.
-    ensures crash { IsTrue (K.are_clean keeper.new) → (functions : Functions) → AreStampsOf functions (F.answer function) (stamps_of job.now asked.now)
-        → (k : ℕ) (items : List (List ℕ)) (image : Image) → K.may_leave keeper.new k items image
-        → K.may_leave keeper.old k items image ⊎ (HoldsSlice (job_record job.now asked.now (F.answer function)) functions k items (image_by H.log H.db k)
-        → HoldsRun (KeepsOwn (job_record job.now asked.now (F.answer function)) functions k items) image) }
+    ensures crash { IsTrue (K.are_clean keeper.new) → LeavesAny (job_record job.now asked.now (F.answer function)) H.log H.db (K.may_leave keeper.old) (K.may_leave keeper.new) }
 {
     let alloc = rt.host().alloc();
     let mut reader = RowsReader::new(alloc, &job.options, from)?;

@@ -29,7 +29,7 @@ use std::io::{Read, Write};
 
 /// The records of a slice, with what is said of them.
 #[derive(Clone, Copy)]
-pub(crate) struct SliceRecords<'a> {
+struct SliceRecords<'a> {
     /// Each packed.
     pub records: &'a PackedList,
     /// The line in which each begins.

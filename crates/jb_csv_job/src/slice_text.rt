@@ -1,12 +1,12 @@
 //! What is reported of a slice whose file or run is refused.
 
 ghost use Rattle.std.specs.Prelude.{◌≡◌};
-ghost use Rattle.jb_csv_job.specs.SliceTexts.{part_what, slice_name, store_name};
+ghost use Rattle.jb_csv_job.specs.SliceTexts.{part_what, store_name};
 
 use crate::path::SlicePath;
 use jb_records::RecordsStepError;
 use jb_slice_file::StoreError;
-use jb_slice_run::{DurableError, IdentityPart, SliceError, SliceRunError};
+use jb_slice_run::{IdentityPart, SliceError};
 use jb_step::StepError;
 use std::fmt;
 
@@ -124,61 +124,6 @@ fn part_what(part: &IdentityPart) -> &'static str
     }
 }
 
-fn slice_name(error: &SliceError) -> &'static str
-    ensures { result.now ≡ slice_name error.now }
-{
-    match error {
-        SliceError::OtherJob(_) => "OtherJob",
-        SliceError::OtherSlice => "OtherSlice",
-        SliceError::OtherItems => "OtherRecords",
-        SliceError::OtherStamp => "OtherStamp",
-        SliceError::LoweredLimit => "LoweredLimit",
-        SliceError::Damaged => "Damaged",
-        SliceError::TooLong => "TooLong",
-        SliceError::Memory => "Memory",
-    }
-}
-
-/// Why a slice's checkpoints aren't taken, and what to do.
-#[derive(Clone, Copy)]
-struct SliceWhat<'a, 'c> {
-    records: &'a str,
-    error: &'c SliceError,
-}
-
-impl<'a, 'c> fmt::Display for SliceWhat<'a, 'c> {
-    ghost use Rattle.std.specs.Prelude.{Some};
-    ghost use Rattle.jb_csv_job.specs.SliceTexts.{slice_what};
-
-    ghost output = { λ what. Some (slice_what what.records.now what.error.now) };
-
-    fn fmt<W: fmt::Write>(&self, f: &mut fmt::Formatter<W>) -> fmt::Result {
-        f.write_str(match self.error {
-            SliceError::OtherJob(part) => return write!(
-                f,
-                "the checkpoints are of a job with {}. Name another FOLDER, or finish that job with its own program.",
-                part_what(part)
-            ),
-            SliceError::OtherSlice =>
-                "the checkpoints are of another slice. Give each file its own name again.",
-            SliceError::OtherItems => return write!(
-                f,
-                "the checkpoints are of other {}. Type the same line with the input that the slice began with, or name another FOLDER.",
-                self.records
-            ),
-            SliceError::OtherStamp =>
-                "the checkpoints are of a function with another stamp. If its results are still right, add --keep-stamp with that stamp. Else name another FOLDER.",
-            SliceError::LoweredLimit =>
-                "a limit is lower than when the slice ran. Raise it again, or name another FOLDER.",
-            SliceError::Damaged =>
-                "a checkpoint can't be read. Restore the file and its log from a copy, or delete both: the slice then runs again.",
-            SliceError::TooLong =>
-                "a checkpoint has more than 4,294,967,295 bytes or texts. Ask the author of the job for shorter slices.",
-            SliceError::Memory => NO_MEMORY,
-        })
-    }
-}
-
 /// Why the step of a slice has no end.
 #[derive(Clone, Copy)]
 struct StepText<'a, 'b, 'c> {
@@ -224,12 +169,33 @@ impl<'a, 'b, 'c> fmt::Display for StepText<'a, 'b, 'c> {
     }
 }
 
+/// Of which other job the checkpoints are, and what to do.
+#[derive(Clone, Copy)]
+struct OtherJobWhat<'c> {
+    part: &'c IdentityPart,
+}
+
+impl<'c> fmt::Display for OtherJobWhat<'c> {
+    ghost use Rattle.std.specs.Prelude.{Some};
+    ghost use Rattle.jb_csv_job.specs.SliceTexts.{other_job_what};
+
+    ghost output = { λ what. Some (other_job_what what.part.now) };
+
+    fn fmt<W: fmt::Write>(&self, f: &mut fmt::Formatter<W>) -> fmt::Result {
+        write!(
+            f,
+            "the checkpoints are of a job with {}. Name another FOLDER, or finish that job with its own program.",
+            part_what(self.part)
+        )
+    }
+}
+
 /// Why the run of a slice has no end.
 #[derive(Clone, Copy)]
 pub(crate) struct RunText<'a, 'b, 'c> {
     pub at: SlicePath<'b>,
     pub records: &'a str,
-    pub error: &'c DurableError,
+    pub error: &'c SliceError,
 }
 
 impl<'a, 'b, 'c> fmt::Display for RunText<'a, 'b, 'c> {
@@ -240,8 +206,44 @@ impl<'a, 'b, 'c> fmt::Display for RunText<'a, 'b, 'c> {
     fn fmt<W: fmt::Write>(&self, f: &mut fmt::Formatter<W>) -> fmt::Result {
         let (at, records, slice) = (self.at, self.records, self.at.slice);
         match self.error {
-            DurableError::Store(error) => write!(f, "{}", StoreText { at, error }),
-            DurableError::TooMany => write!(
+            SliceError::Store(error) => write!(f, "{}", StoreText { at, error }),
+            SliceError::Step(error) => write!(f, "{}", StepText { at, records, error }),
+            SliceError::OtherJob(part) => {
+                write!(
+                    f,
+                    "OtherJob: slice {slice}, {at}: {}",
+                    OtherJobWhat { part }
+                )
+            }
+            SliceError::OtherSlice => write!(
+                f,
+                "OtherSlice: slice {slice}, {at}: the checkpoints are of another slice. Give each file its own name again."
+            ),
+            SliceError::OtherItems => write!(
+                f,
+                "OtherRecords: slice {slice}, {at}: the checkpoints are of other {records}. Type the same line with the input that the slice began with, or name another FOLDER."
+            ),
+            SliceError::OtherStamp => write!(
+                f,
+                "OtherStamp: slice {slice}, {at}: the checkpoints are of a function with another stamp. If its results are still right, add --keep-stamp with that stamp. Else name another FOLDER."
+            ),
+            SliceError::LoweredLimit => write!(
+                f,
+                "LoweredLimit: slice {slice}, {at}: a limit is lower than when the slice ran. Raise it again, or name another FOLDER."
+            ),
+            SliceError::Damaged => write!(
+                f,
+                "Damaged: slice {slice}, {at}: a checkpoint can't be read. Restore the file and its log from a copy, or delete both: the slice then runs again."
+            ),
+            SliceError::TooLong => write!(
+                f,
+                "TooLong: slice {slice}, {at}: a checkpoint has more than 4,294,967,295 bytes or texts. Ask the author of the job for shorter slices."
+            ),
+            SliceError::NoNumbers => write!(
+                f,
+                "TooMany: slice {slice}, {at}: there are too many {records}: their numbers end at 18,446,744,073,709,551,615."
+            ),
+            SliceError::TooMany => write!(
                 f,
                 "{}",
                 StoreText {
@@ -249,26 +251,12 @@ impl<'a, 'b, 'c> fmt::Display for RunText<'a, 'b, 'c> {
                     error: &StoreError::TooMany
                 }
             ),
-            DurableError::Stopped => write!(
+            SliceError::Stopped => write!(
                 f,
                 "Stopped: slice {slice}, {at}: {}/stop is there. What was done is stored. Remove it, and type the same line again.",
                 at.folder
             ),
-            DurableError::Run(SliceRunError::Checkpoints(error)) => write!(
-                f,
-                "{}: slice {slice}, {at}: {}",
-                slice_name(error),
-                SliceWhat { records, error }
-            ),
-            DurableError::Run(SliceRunError::Step(error)) => write!(
-                f,
-                "{}",
-                StepText { at, records, error }
-            ),
-            DurableError::Run(SliceRunError::TooMany) => write!(
-                f,
-                "TooMany: slice {slice}, {at}: there are too many {records}: their numbers end at 18,446,744,073,709,551,615."
-            ),
+            SliceError::Memory => write!(f, "Memory: slice {slice}, {at}: {NO_MEMORY}"),
         }
     }
 }

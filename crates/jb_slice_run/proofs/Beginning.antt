@@ -1,22 +1,15 @@
 -- A slice's bytes begin with a header's, and go on with those of intervals.
 use Rattle.std.proofs.Common.{ℕ, ◌≡◌, true, true≢false, List, [], ◌∷◌, length, inl, inr, refl, sym, ap, ◌∙◌, arith}
-use Rattle.std.proofs.lemmas.List.{length-map}
-use Rattle.std.proofs.lemmas.List.FromFn.{length-map-range_with_len}
+use Rattle.std.proofs.{lemmas.List.length-map, lemmas.List.FromFn.length-map-range_with_len}
 use Rattle.jb_slice_file.specs.CheckpointBytes.{CheckpointBytes}
 use Rattle.jb_mapper.specs.EvenCover.{even_range, even_ranges}
 use Rattle.jb_rules.specs.Rows.{range_of}
 use Rattle.jb_slices.specs.Checkpoint.{Begins, Checkpoint, GoesOn, Header, Progress, header_of}
-use Rattle.jb_slices.specs.Job.{HaveInCommon, Job}
-use Rattle.jb_slices.specs.Partitions.{grown}
 use Rattle.jb_slices.specs.Slice.{Follow, Functions, IsSliceSoFar, SliceState, next, start}
-use Rattle.jb_slice_run.specs.Held.{AreIntervalsOf}
-use Rattle.jb_slice_run.specs.SliceBytes.{AreStoredAs}
-use Rattle.jb_slice_run.specs.Laws.{BeginsWithHeader, OwnSlicesResume, SlicesBeginWithHeaders}
-use Rattle.jb_slice_run.specs.Refusals.{IsHeaderCause, part_of}
-use Rattle.jb_slice_run.specs.declared.error.IdentityPart.{IdentityPart}
+use Rattle.jb_slices.specs.{Job.HaveInCommon, Job.Job, Partitions.grown}
 use Rattle.jb_slice_run.specs.declared.error.IdentityPart.TheVariants.{Classes, ItemCount, Name, Partitions, SliceLength}
-use Rattle.jb_slice_run.specs.declared.error.SliceError.{SliceError}
-use Rattle.jb_slice_run.specs.declared.error.SliceError.TheVariants.{Damaged, LoweredLimit, Memory, OtherItems, OtherJob, OtherSlice, OtherStamp, TooLong}
+use Rattle.jb_slice_run.specs.declared.error.SliceError.TheVariants.{OtherItems, OtherJob, OtherSlice, OtherStamp}
+use Rattle.jb_slice_run.specs.{Held.AreIntervalsOf, SliceBytes.AreStoredAs, Laws.BeginsWithHeader, Laws.OwnSlicesResume, Laws.SlicesBeginWithHeaders, Refusals.IsHeaderCause, Refusals.part_of, declared.error.IdentityPart.IdentityPart, declared.error.SliceError.SliceError}
 
 pub even_length : (records parts : ℕ) → length (even_ranges records parts) ≡ parts
 unfolding even_ranges
@@ -68,10 +61,7 @@ refused_by own stamps held (OtherJob part) job number digest items cause = absur
 refused_by own stamps held OtherSlice job number digest items cause = absurd (cause.1 number)
 refused_by own stamps held OtherItems job number digest items cause = absurd (elim cause.2 [ inl other ↦ other digest | inr others ↦ others items ])
 refused_by own stamps held OtherStamp job number digest items cause = refl
-refused_by own stamps held LoweredLimit job number digest items cause = absurd cause
-refused_by own stamps held Damaged job number digest items cause = absurd cause
-refused_by own stamps held TooLong job number digest items cause = absurd cause
-refused_by own stamps held Memory job number digest items cause = absurd cause
+refused_by own stamps held e job number digest items cause = absurd cause
 
 pub own_slices : OwnSlicesResume
 own_slices job functions number items first later limits stamp stamps e begins cause =

@@ -1,16 +1,11 @@
 -- Bytes that are a part of a checkpoint, or aren't.
 use Rattle.std.proofs.Common.{ℕ, zero, suc, ◌≡◌, ◌<◌, ◌≤◌, ◌+◌, List, [], ◌∷◌, ◌++◌, length, map, take, drop, get_or, option_map, Option, None, Some, true, true≢false, ◌==◌, inl, inr, refl, sym, ap, subst, ◌∙◌, arith, length-append}
-use Rattle.std.specs.Int.{w64, from_le_bytes, to_le_bytes}
-use Rattle.std.specs.Option.{ForSome}
-use Rattle.std.proofs.Math.Seq.{drop-append_seam, take-append_seam}
-use Rattle.std.proofs.lemmas.Nat.{le_bytes_8}
-use Rattle.std.proofs.lemmas.Bool.{cases_lt, ne_eqb}
 use Rattle.std.proofs.lemmas.List.{append-nil, get_or-take, get_or_past, length-take, map-append, take-append-drop, take_more}
+use Rattle.std.proofs.{Math.Seq.drop-append_seam, Math.Seq.take-append_seam, lemmas.Nat.le_bytes_8, lemmas.Bool.cases_lt, lemmas.Bool.ne_eqb}
+use Rattle.std.specs.{Int.w64, Int.from_le_bytes, Int.to_le_bytes, Option.ForSome}
 use Rattle.jb_base.specs.Limits.{max_classes}
 use Rattle.jb_slices.specs.Function.{Fault}
-use Rattle.jb_slice_run.specs.Held.{fault_in, one_grown}
-use Rattle.jb_slice_run.specs.Strings.{IsSmall, NewOutput, fault_string, number_string}
-use Rattle.jb_slice_run.specs.declared.fault.Fault.{Fault as HeldFault}
+use Rattle.jb_slice_run.specs.{Held.fault_in, Held.one_grown, Strings.IsSmall, Strings.NewOutput, Strings.fault_string, Strings.number_string, declared.fault.Fault.Fault as HeldFault}
 use Rattle.jb_slice_run.proofs.Once.{number_length}
 
 pub number_read : (bytes front rest : List ℕ) (n : ℕ) → ((i : ℕ) → get_or bytes i 0 < 256) → front ≡ take 8 bytes → rest ≡ drop 8 bytes → length rest + 8 ≡ length bytes
@@ -85,10 +80,7 @@ some_small (Some held) small fault is = let same : fault_in held ≡ fault = cc 
 
 pub put_together : (results : List (List ℕ)) (skips : List Fault) (stop : Option Fault) (before new : NewOutput) → results ≡ before.results ++ new.results → skips ≡ before.skips ++ new.skips → stop ≡ new.stop
     → ◌≡◌ {A = NewOutput} (record { results = results; skips = skips; stop = stop }) (one_grown before new)
-put_together results skips stop before new r s t =
-    ap (λ (x : List (List ℕ)). record { results = x; skips = skips; stop = stop }) r
-    ∙ ap (λ (x : List Fault). record { results = before.results ++ new.results; skips = x; stop = stop }) s
-    ∙ ap (λ (x : Option Fault). record { results = before.results ++ new.results; skips = before.skips ++ new.skips; stop = x }) t
+put_together results skips stop before new r s t = λ i. record { results = r i; skips = s i; stop = t i }
 
 -- ---- lists that were read
 

@@ -1,11 +1,8 @@
 -- Codings begin apart, and end apart.
 use Rattle.std.proofs.Common.{ℕ, ◌≡◌, ◌<◌, ◌≤◌, ◌+◌, ◌^◌, List, [], ◌∷◌, ◌++◌, length, take, drop, get_or, inl, inr, refl, sym, ap, subst, ◌∙◌, append_assoc, arith, length-append}
-use Rattle.std.specs.Int.{w32, from_le_bytes, to_le_bytes}
-use Rattle.std.specs.List.{AllByRecursion}
-use Rattle.std.proofs.Math.Seq.{take-append_seam, drop-append_seam}
-use Rattle.std.proofs.lemmas.Nat.{from_le_bytes-to_le_bytes_4, le_bytes_4}
-use Rattle.std.proofs.lemmas.Bool.{cases_lt}
 use Rattle.std.proofs.lemmas.List.{append-nil, get_or-take, get_or_past, length-take, length-take-le, take-append-drop}
+use Rattle.std.proofs.{Math.Seq.take-append_seam, Math.Seq.drop-append_seam, lemmas.Nat.from_le_bytes-to_le_bytes_4, lemmas.Nat.le_bytes_4, lemmas.Bool.cases_lt}
+use Rattle.std.specs.{Int.w32, Int.from_le_bytes, Int.to_le_bytes, List.AllByRecursion}
 use Rattle.jb_slice_run.specs.Coding.{coded_number, coded_string, coded_strings, coded_list, coded, IsShort, IsCodable, AreCodable, IsCodingOf}
 
 -- ---- lists of one length
@@ -88,13 +85,12 @@ strings_bytes s list r = append_assoc (coded_string s) (coded_strings list) r
 pub behind_strings : (xs ys : List (List ℕ)) (r u : List ℕ) → AllByRecursion (λ (s : List ℕ). IsShort s) xs → AllByRecursion (λ (s : List ℕ). IsShort s) ys → length xs ≡ length ys
     → coded_strings xs ++ r ≡ coded_strings ys ++ u → (xs ≡ ys) × (r ≡ u)
 behind_strings [] [] r u sx sy same e = (refl, e)
-behind_strings [] (y ∷ ys) r u sx sy same e = absurd (omega (arith, same))
-behind_strings (x ∷ xs) [] r u sx sy same e = absurd (omega (arith, same))
 behind_strings (x ∷ xs) (y ∷ ys) r u sx sy same e =
     let apart : coded_string x ++ (coded_strings xs ++ r) ≡ coded_string y ++ (coded_strings ys ++ u) = sym (strings_bytes x xs r) ∙ e ∙ strings_bytes y ys u in
     let later : coded_strings xs ++ r ≡ coded_strings ys ++ u = behind_string x y (coded_strings xs ++ r) (coded_strings ys ++ u) sx.0 sy.0 apart in
     let more = behind_strings xs ys r u sx.1 sy.1 (omega (arith, same)) later in
     (ap (λ s. s ∷ xs) (first_string x y (coded_strings xs ++ r) (coded_strings ys ++ u) sx.0 sy.0 apart) ∙ ap (λ l. y ∷ l) more.0, more.1)
+behind_strings _ _ r u sx sy same e = absurd (omega (arith, same))
 
 -- behind fewer strings there stands another one
 pub next_string : (xs ys : List (List ℕ)) (r u : List ℕ) → AllByRecursion (λ (s : List ℕ). IsShort s) xs → AllByRecursion (λ (s : List ℕ). IsShort s) ys → length xs < length ys
@@ -121,13 +117,12 @@ lists_bytes list lists r = append_assoc (coded_list list) (coded lists) r
 
 pub behind_lists : (xs ys : List (List (List ℕ))) (r u : List ℕ) → AreCodable xs → AreCodable ys → length xs ≡ length ys → coded xs ++ r ≡ coded ys ++ u → (xs ≡ ys) × (r ≡ u)
 behind_lists [] [] r u cx cy same e = (refl, e)
-behind_lists [] (y ∷ ys) r u cx cy same e = absurd (omega (arith, same))
-behind_lists (x ∷ xs) [] r u cx cy same e = absurd (omega (arith, same))
 behind_lists (x ∷ xs) (y ∷ ys) r u cx cy same e =
     let apart : coded_list x ++ (coded xs ++ r) ≡ coded_list y ++ (coded ys ++ u) = sym (lists_bytes x xs r) ∙ e ∙ lists_bytes y ys u in
     let first = behind_list x y (coded xs ++ r) (coded ys ++ u) cx.0 cy.0 apart in
     let more = behind_lists xs ys r u cx.1 cy.1 (omega (arith, same)) first.1 in
     (ap (λ s. s ∷ xs) first.0 ∙ ap (λ l. y ∷ l) more.0, more.1)
+behind_lists _ _ r u cx cy same e = absurd (omega (arith, same))
 
 pub next_list : (xs ys : List (List (List ℕ))) (r u : List ℕ) → AreCodable xs → AreCodable ys → length xs < length ys → coded xs ++ r ≡ coded ys ++ u
     → (list : List (List ℕ)) × (more : List ℕ) × IsCodable list × (r ≡ coded_list list ++ more)

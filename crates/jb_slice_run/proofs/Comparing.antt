@@ -1,18 +1,10 @@
 -- Headers that are compared list by list.
 use Rattle.std.proofs.Common.{ℕ, zero, suc, ◌≡◌, ◌<◌, ◌+◌, Bool, true, false, true≢false, List, [], ◌∷◌, ◌++◌, length, map, take, get_or, Result, Ok, Err, refl, sym, ap, subst, ◌∙◌, arith}
-use Rattle.std.specs.Bool.{MatchBool}
-use Rattle.std.specs.List.{Contains}
-use Rattle.std.specs.Result.{MatchResult}
 use Rattle.std.proofs.lemmas.List.{take_more, get_or-map, length-map}
-use Rattle.jb_slices.specs.Checkpoint.{Header}
-use Rattle.jb_slices.specs.Job.{Limits}
-use Rattle.jb_slice_run.specs.Held.{limits_in}
-use Rattle.jb_slice_run.specs.Strings.{AreLimitsSmall, header_lists, limits_list}
-use Rattle.jb_slice_run.specs.declared.error.SliceError.{SliceError}
-use Rattle.jb_slice_run.specs.declared.error.SliceError.TheVariants.{Damaged}
-use Rattle.jb_slice_run.specs.declared.header.SliceLimits.{SliceLimits}
-use Rattle.jb_slice_run.proofs.Once.{limits_once}
-use Rattle.jb_slice_run.proofs.Pushing.{map_more}
+use Rattle.std.specs.{Bool.MatchBool, List.Contains, Result.MatchResult}
+use Rattle.jb_slices.specs.{Checkpoint.Header, Job.Limits}
+use Rattle.jb_slice_run.specs.{Held.limits_in, Strings.AreLimitsSmall, Strings.header_lists, Strings.limits_list, declared.error.SliceError.SliceError, declared.error.SliceError.TheVariants.Damaged, declared.header.SliceLimits.SliceLimits}
+use Rattle.jb_slice_run.proofs.{Once.limits_once, Pushing.map_more}
 
 -- ---- two lists
 

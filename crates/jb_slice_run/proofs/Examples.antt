@@ -1,33 +1,20 @@
 -- A slice that failed, and its bytes.
 use Rattle.std.proofs.Common.{ℕ, zero, suc, ◌≡◌, ◌<◌, ◌^◌, false, List, [], ◌∷◌, length, slice_get, codes, true, Option, Some, subst, refl, sym, ap, ◌∙◌, arith}
-use Rattle.std.specs.Char.{encode_utf8}
-use Rattle.std.specs.Fmt.{digits}
-use Rattle.std.specs.Option.{ForSome}
-use Rattle.std.specs.Str.{IsUtf8, chars, is_utf8}
 use Rattle.std.proofs.lemmas.Str.{IsUtf8-from_is_utf8}
+use Rattle.std.specs.{Char.encode_utf8, Fmt.digits, Option.ForSome, Str.IsUtf8, Str.chars, Str.is_utf8}
 use Rattle.serde_json.specs.Written.{compact_text}
 use Rattle.serde_json.proofs.OnLiterals.{serde_json_on_literals}
 use Rattle.jb_job.proofs.Texts.{tree_of-read}
-use Rattle.jb_saved.specs.SavedTree.{saved_tree}
+use Rattle.jb_saved.specs.{SavedTree.saved_tree, Worked.row, Laws.TextIsRead, Laws.TreeIsRead, Reading.answer_of, SavedRows.IsSaved}
 use Rattle.sha2.specs.Sha256.{digest_bytes, sha256}
 use Rattle.jb_mapper.specs.EvenCover.{even_ranges}
-use Rattle.jb_slice_run.specs.Coding.{AreCodable}
-use Rattle.jb_rows.specs.Fields.{code_of, cut, field_from, fields_in, fields_up_to, packed, packed_field, size_code, size_from}
-use Rattle.jb_rules.specs.Sound.{IsSoundRow}
-use Rattle.jb_rules.specs.States.{is_running}
-use Rattle.jb_rules.specs.declared.row.RowState.TheVariants.{Failed}
-use Rattle.jb_saved.specs.Worked.{row}
-use Rattle.jb_rules.specs.declared.row.Row.{Row}
-use Rattle.jb_saved.specs.Laws.{TextIsRead, TreeIsRead}
-use Rattle.jb_saved.specs.Reading.{answer_of}
-use Rattle.jb_saved.specs.SavedRows.{IsSaved}
-use Rattle.jb_slices.specs.Checkpoint.{Begins, GoesOn, digest_of}
-use Rattle.jb_slices.specs.Example.{class_five, example_job, fault_of_nine, limits_of, one_function}
-use Rattle.jb_slices.specs.Function.{Fault, Pass}
-use Rattle.jb_slices.specs.Job.{rules_of}
-use Rattle.jb_slices.specs.Slice.{IsSliceSoFar}
 use Rattle.jb_slice_run.specs.Example.{SomeAreStored, failed_header, failed_interval, failed_partitions, failed_rows, two}
 use Rattle.jb_slice_run.specs.Strings.{AreLimitsSmall, AreOutputsSmall, IsHeaderSmall, IsSmall, all_new_output, header_lists, interval_lists, number_string}
+use Rattle.jb_slice_run.specs.Coding.{AreCodable, IsCodable}
+use Rattle.jb_rows.specs.Fields.{code_of, cut, field_from, fields_in, fields_up_to, packed, packed_field, size_code, size_from}
+use Rattle.jb_rules.specs.{Sound.IsSoundRow, States.is_running, declared.row.RowState.TheVariants.Failed, declared.row.Row.Row}
+use Rattle.jb_slices.specs.Example.{class_five, example_job, fault_of_nine, limits_of, one_function}
+use Rattle.jb_slices.specs.{Checkpoint.Begins, Checkpoint.GoesOn, Checkpoint.digest_of, Function.Fault, Function.Pass, Job.rules_of, Slice.IsSliceSoFar}
 
 -- ---- the slice
 
@@ -96,28 +83,28 @@ header_small = record {
   items = omega arith;
 }
 
+one_short : (s : List ℕ) → length s < 2 ^ 32 → IsCodable (s ∷ [])
+one_short s short = record { few = omega arith; short = (short, tt) }
+
 header_codable : AreCodable (header_lists failed_header)
 unfolding number_string
 header_codable = (
-  record { few = omega arith; short = (digest_short two, tt) },
+  one_short _ (digest_short two),
   (
-    record { few = omega arith; short = (omega arith, tt) },
+    one_short _ (omega arith),
     (
-      record { few = omega arith; short = (omega arith, tt) },
+      one_short _ (omega arith),
       (
-        record { few = omega arith; short = (omega arith, tt) },
+        one_short _ (omega arith),
         (
-          record { few = omega arith; short = (omega arith, tt) },
+          one_short _ (omega arith),
           (
             record { few = omega arith; short = (omega arith, (omega arith, (omega arith, tt))) },
             (
-              record { few = omega arith; short = (omega arith, tt) },
+              one_short _ (omega arith),
               (
                 record { few = omega arith; short = (omega arith, (omega arith, (omega arith, tt))) },
-                (
-                  record { few = omega arith; short = (omega arith, tt) },
-                  (record { few = omega arith; short = (omega arith, tt) }, tt),
-                ),
+                (one_short _ (omega arith), (one_short _ (omega arith), tt)),
               ),
             ),
           ),
@@ -140,16 +127,8 @@ new_output_small = (record { skips = tt; stop = fault_small }, tt)
 
 interval_codable : AreCodable (interval_lists (limits_of 0) (all_new_output failed_partitions))
 unfolding number_string
-interval_codable = (
-  record { few = omega arith; short = (omega arith, (omega arith, (omega arith, tt))) },
-  (
-    record { few = omega arith; short = (omega arith, tt) },
-    (
-      record { few = omega arith; short = tt },
-      (record { few = omega arith; short = (omega arith, tt) }, tt),
-    ),
-  ),
-)
+interval_codable =
+    (record { few = omega arith; short = (omega arith, (omega arith, (omega arith, tt))) }, (one_short _ (omega arith), (record { few = omega arith; short = tt }, (one_short _ (omega arith), tt))))
 
 -- ---- its rows
 

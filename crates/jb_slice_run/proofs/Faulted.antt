@@ -1,19 +1,13 @@
 -- The faults of a partition between two checkpoints.
 use Rattle.std.proofs.Common.{◌≡◌, ℕ, ◌+◌, ◌-◌, ◌≤◌, ◌<◌, ◌++◌, List, [], length, Option, None, Some, option_map, refl, ap, sym, subst, ◌∙◌, arith}
-use Rattle.std.specs.Prelude.{MatchOption, option_to_list}
-use Rattle.std.specs.List.{cons_option, filter_map, range_with_len}
 use Rattle.std.proofs.lemmas.List.{length-map, nil_from_length, length-append}
+use Rattle.std.specs.{Prelude.MatchOption, Prelude.option_to_list, List.cons_option, List.filter_map, List.range_with_len}
 use Rattle.jb_base.specs.Rules.{RulesRecord}
 use Rattle.jb_ready.specs.declared.notes.Note.{Note}
 use Rattle.jb_rules.specs.declared.row.Row.{Row}
-use Rattle.jb_records.specs.Artifacts.{record_of}
-use Rattle.jb_records.specs.Following.{FollowsRules, IsStopOf}
-use Rattle.jb_records.specs.FollowingLaws.{StoppedRowsDont}
-use Rattle.jb_records.specs.Function.{steady}
-use Rattle.jb_records.specs.Skips.{skip_by, skips_between}
+use Rattle.jb_records.specs.{Artifacts.record_of, Following.FollowsRules, Following.IsStopOf, FollowingLaws.StoppedRowsDont, Function.steady, Skips.skip_by, Skips.skips_between}
 use Rattle.jb_slices.specs.Function.{Fault, Function, refusal_of}
-use Rattle.jb_slice_run.specs.NewOutput.{CanGrow, IsStopOfPartition, from_of, skipped_before}
-use Rattle.jb_slice_run.specs.Rows.{fault_at, faults_at}
+use Rattle.jb_slice_run.specs.{NewOutput.CanGrow, NewOutput.IsStopOfPartition, NewOutput.from_of, NewOutput.skipped_before, Rows.fault_at, Rows.faults_at}
 use Rattle.jb_slice_run.proofs.RowItems.{skips-on}
 
 one-option : (o : Option Note) → cons_option o [] ≡ option_to_list o

@@ -1,34 +1,26 @@
 -- Partitions that grow, one after the other and interval by interval.
 use Rattle.std.proofs.Common.{ℕ, zero, suc, ◌≡◌, ◌<◌, ◌+◌, ◌*◌, List, [], ◌∷◌, ◌++◌, length, map, take, get_or, set, refl, sym, ap, subst, ◌∙◌, arith}
 use Rattle.std.proofs.lemmas.List.{get_or_default, length-map, length-take-le, take_more}
-use Rattle.jb_slice_file.specs.CheckpointBytes.{CheckpointBytes, checkpoint_bytes}
-use Rattle.jb_slice_file.specs.declared.checkpoint.Checkpoint.{Checkpoint as HeldCheckpoint}
-use Rattle.jb_slice_run.specs.Coding.{IsCodingOf}
-use Rattle.jb_slices.specs.Checkpoint.{Begins, Checkpoint, GoesOn, Interval}
-use Rattle.jb_slices.specs.Job.{Limits}
+use Rattle.jb_slice_file.specs.{CheckpointBytes.CheckpointBytes, CheckpointBytes.checkpoint_bytes, declared.checkpoint.Checkpoint.Checkpoint as HeldCheckpoint}
 use Rattle.jb_slice_run.specs.Held.{AreIntervalsOf, limits_led, limits_next, new_output_grown, new_output_led, new_output_next, no_new_output, one_grown}
-use Rattle.jb_slice_run.specs.SliceBytes.{AreStoredAs, IsIntervalStored, lists_of}
 use Rattle.jb_slice_run.specs.Strings.{AreOutputsSmall, IsOutputSmall, NewOutput, all_new_output, fault_string, interval_lists, new_output_lists, new_output_of, stop_list}
+use Rattle.jb_slice_run.specs.{Coding.IsCodingOf, SliceBytes.AreStoredAs, SliceBytes.IsIntervalStored, SliceBytes.lists_of}
+use Rattle.jb_slices.specs.{Checkpoint.Begins, Checkpoint.Checkpoint, Checkpoint.GoesOn, Checkpoint.Interval, Job.Limits}
 
 -- ---- the three lists of a partition
 
 three_more_and : (i k : ℕ) → 3 * suc i + k ≡ suc (suc (suc (3 * i + k)))
 three_more_and i k = omega arith
 
-pub results_at : (ns : List NewOutput) (i : ℕ) → i < length ns → get_or (new_output_lists ns) (3 * i + 0) [] ≡ (get_or ns i no_new_output).results
-results_at [] i within = absurd (omega (arith, within))
-results_at (n ∷ ns) zero within = refl
-results_at (n ∷ ns) (suc i) within = ap (λ k. get_or (new_output_lists (n ∷ ns)) k []) (three_more_and i 0) ∙ results_at ns i (omega (arith, within))
-
-pub skips_at : (ns : List NewOutput) (i : ℕ) → i < length ns → get_or (new_output_lists ns) (3 * i + 1) [] ≡ map fault_string (get_or ns i no_new_output).skips
-skips_at [] i within = absurd (omega (arith, within))
-skips_at (n ∷ ns) zero within = refl
-skips_at (n ∷ ns) (suc i) within = ap (λ k. get_or (new_output_lists (n ∷ ns)) k []) (three_more_and i 1) ∙ skips_at ns i (omega (arith, within))
-
-pub stop_at : (ns : List NewOutput) (i : ℕ) → i < length ns → get_or (new_output_lists ns) (3 * i + 2) [] ≡ stop_list (get_or ns i no_new_output).stop
-stop_at [] i within = absurd (omega (arith, within))
-stop_at (n ∷ ns) zero within = refl
-stop_at (n ∷ ns) (suc i) within = ap (λ k. get_or (new_output_lists (n ∷ ns)) k []) (three_more_and i 2) ∙ stop_at ns i (omega (arith, within))
+pub lists_at : (ns : List NewOutput) (i : ℕ) → i < length ns
+    → (get_or (new_output_lists ns) (3 * i + 0) [] ≡ (get_or ns i no_new_output).results) × (get_or (new_output_lists ns) (3 * i + 1) [] ≡ map fault_string (get_or ns i no_new_output).skips)
+    × (get_or (new_output_lists ns) (3 * i + 2) [] ≡ stop_list (get_or ns i no_new_output).stop)
+lists_at [] i within = absurd (omega (arith, within))
+lists_at (n ∷ ns) zero within = (refl, refl, refl)
+lists_at (n ∷ ns) (suc i) within =
+    let at = λ (k : ℕ). ap (λ m. get_or (new_output_lists (n ∷ ns)) m []) (three_more_and i k) in
+    let more = lists_at ns i (omega (arith, within)) in
+    (at 0 ∙ more.0, at 1 ∙ more.1, at 2 ∙ more.2)
 
 pub small_at : (ns : List NewOutput) (i : ℕ) → AreOutputsSmall ns → i < length ns → IsOutputSmall (get_or ns i no_new_output)
 small_at [] i small within = absurd (omega (arith, within))

@@ -3,19 +3,11 @@ use Rattle.std.proofs.Common.{ℕ, suc, ◌≡◌, List, [], ◌∷◌, ◌++◌
 use Rattle.std.proofs.lemmas.List.{length-map}
 use Rattle.std.specs.Prelude.{option_copied, slice_get}
 use Rattle.jb_slice_file.specs.CheckpointBytes.{CheckpointBytes}
-use Rattle.jb_slices.specs.Checkpoint.{Begins, Checkpoint, Header, Progress}
-use Rattle.jb_slices.specs.Job.{Job, Limits}
-use Rattle.jb_slices.specs.Partitions.{grown}
-use Rattle.jb_slices.specs.Slice.{Functions, slice_state}
-use Rattle.jb_slice_run.specs.Held.{AreIntervalsOf, HasRead, new_output_in}
-use Rattle.jb_slice_run.specs.SliceBytes.{AreStoredAs}
-use Rattle.jb_slice_run.specs.Laws.{BeginsWithHeader}
+use Rattle.jb_slices.specs.{Checkpoint.Begins, Checkpoint.Checkpoint, Checkpoint.Header, Checkpoint.Progress, Job.Job, Job.Limits, Partitions.grown, Slice.Functions, Slice.slice_state}
 use Rattle.jb_slice_run.specs.Named.{Faults, HoldsFaults, faults_by, faults_grown, faults_held, one_after}
-use Rattle.jb_slice_run.specs.Strings.{NewOutput, all_new_output, new_output_of}
-use Rattle.jb_slice_run.specs.declared.fault.PartitionFaults.{PartitionFaults}
+use Rattle.jb_slice_run.specs.{Held.AreIntervalsOf, Held.HasRead, Held.new_output_in, SliceBytes.AreStoredAs, Laws.BeginsWithHeader, Strings.NewOutput, Strings.all_new_output, Strings.new_output_of, declared.fault.PartitionFaults.PartitionFaults}
 use Rattle.jb_slice_run.specs.declared.partition_output.HeldSlice.{HeldSlice}
-use Rattle.jb_slice_run.proofs.Places.{places_are_read}
-use Rattle.jb_slice_run.proofs.Telling.{all_once}
+use Rattle.jb_slice_run.proofs.{Places.places_are_read, Telling.all_once}
 
 -- ---- one partition more
 

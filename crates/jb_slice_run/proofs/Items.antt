@@ -2,12 +2,8 @@
 use Rattle.std.proofs.Common.{ℕ, ◌≡◌, ◌<◌, ◌≤◌, ◌+◌, ◌^◌, ◌⊎◌, List, [], ◌++◌, length, take, get_or, refl, sym, ap, ◌∙◌, append_assoc}
 use Rattle.std.specs.List.{flat_map}
 use Rattle.jb_slices.specs.Checkpoint.{coded_item}
-use Rattle.jb_slice_run.specs.Coding.{coded_number, coded_string, IsShort}
-use Rattle.jb_slice_run.specs.Work.{AreItemsShort}
-use Rattle.jb_slice_run.specs.declared.error.SliceError.{SliceError}
-use Rattle.jb_slice_run.specs.declared.error.SliceError.TheVariants.{Memory, TooLong}
-use Rattle.jb_slice_run.proofs.Pushing.{flat_more, not_short, one_of}
-use Rattle.jb_slice_run.proofs.Why.{why_not}
+use Rattle.jb_slice_run.specs.{Coding.coded_number, Coding.coded_string, Coding.IsShort, Work.AreItemsShort, declared.error.SliceError.SliceError, declared.error.SliceError.TheVariants.Memory, declared.error.SliceError.TheVariants.TooLong}
+use Rattle.jb_slice_run.proofs.{Pushing.flat_more, Pushing.not_short, Pushing.one_of, Why.why_not}
 
 coded_is : (s : List ℕ) → coded_string s ≡ coded_item s
 unfolding coded_number

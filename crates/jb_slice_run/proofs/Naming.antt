@@ -1,26 +1,13 @@
 -- The faults that a slice's checkpoints name.
 use Rattle.std.proofs.Common.{ℕ, suc, ◌≡◌, ◌<◌, ◌≤◌, ◌⊎◌, inl, inr, ◌+◌, Bool, true, false, min, List, [], ◌∷◌, ◌++◌, Option, None, Some, length, drop, get_or, map, refl, sym, ap, ap₂, ◌∙◌, append_assoc, arith}
-use Rattle.std.proofs.lemmas.Bool.{cases_lt}
-use Rattle.std.proofs.lemmas.List.{drop_all, drop_more, length-map}
-use Rattle.jb_rules.specs.Rows.{range_of}
-use Rattle.jb_rules.specs.States.{is_failed}
-use Rattle.jb_rules.specs.declared.row.Row.{Row}
+use Rattle.std.proofs.{lemmas.Bool.cases_lt, lemmas.List.drop_all, lemmas.List.drop_more, lemmas.List.length-map}
+use Rattle.jb_rules.specs.{Rows.range_of, States.is_failed, declared.row.Row.Row}
 use Rattle.jb_records.specs.Intervals.{RunState}
 use Rattle.jb_slice_file.specs.CheckpointBytes.{CheckpointBytes}
-use Rattle.jb_slices.specs.Checkpoint.{Progress}
-use Rattle.jb_slices.specs.Failures.{PartitionFailure, failure_and, failures_from}
-use Rattle.jb_slices.specs.Function.{Fault, Function}
-use Rattle.jb_slices.specs.Job.{Job, Limits}
-use Rattle.jb_slices.specs.Partitions.{joined_skips}
-use Rattle.jb_slices.specs.Slice.{Functions, slice_state}
-use Rattle.jb_slice_run.specs.Held.{faults_in}
+use Rattle.jb_slices.specs.{Checkpoint.Progress, Failures.PartitionFailure, Failures.failure_and, Failures.failures_from, Function.Fault, Function.Function, Job.Job, Job.Limits, Partitions.joined_skips, Slice.Functions, Slice.slice_state}
 use Rattle.jb_slice_run.specs.Named.{AreNamed, Faults, HoldsFaults, failure_in, failures_by, faults_by, skips_by}
-use Rattle.jb_slice_run.specs.Rows.{rows_in}
-use Rattle.jb_slice_run.specs.Strings.{all_new_output, new_output_of}
-use Rattle.jb_slice_run.specs.Work.{HasIntervals}
-use Rattle.jb_slice_run.specs.declared.named.SliceFaults.{SliceFaults}
-use Rattle.jb_slice_run.proofs.Beginning.{even_length}
-use Rattle.jb_slice_run.proofs.Working.{again-length}
+use Rattle.jb_slice_run.specs.{Held.faults_in, Rows.rows_in, Strings.all_new_output, Strings.new_output_of, Work.HasIntervals, declared.named.SliceFaults.SliceFaults}
+use Rattle.jb_slice_run.proofs.{Beginning.even_length, Working.again-length}
 
 -- ---- one partition after the other
 

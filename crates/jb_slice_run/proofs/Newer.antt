@@ -6,22 +6,16 @@ use Rattle.jb_base.specs.Rules.{RulesRecord}
 use Rattle.jb_mapper.specs.EvenCover.{ith_range}
 use Rattle.jb_ready.specs.declared.notes.Note.{Note}
 use Rattle.jb_rules.specs.declared.row.Row.{Row}
-use Rattle.jb_records.specs.Following.{FollowRules, ranges_of}
-use Rattle.jb_records.specs.Function.{steady}
-use Rattle.jb_records.specs.PartitionResults.{AreRowsInOrder}
+use Rattle.jb_records.specs.{Following.FollowRules, Following.ranges_of, Function.steady, PartitionResults.AreRowsInOrder}
 use Rattle.jb_slices.specs.Function.{Function}
-use Rattle.jb_slice_run.specs.NewOutput.{CanAllGrow, CanGrow, IsNewOutputOf, from_of}
 use Rattle.jb_slice_run.specs.Rows.{ArePlaced, AreStopsNamed, HaveRisen, begins_of, places_of, progress_since, progresses_since}
-use Rattle.jb_slice_run.specs.Strings.{NewOutput, all_new_output, new_output_of}
-
-none-longer : (n : ℕ) → 0 ≡ suc n → ⊥
-none-longer n e = omega (arith, e)
+use Rattle.jb_slice_run.specs.{NewOutput.CanAllGrow, NewOutput.CanGrow, NewOutput.IsNewOutputOf, NewOutput.from_of, Strings.NewOutput, Strings.all_new_output, Strings.new_output_of}
 
 one-less : (m n : ℕ) → suc m ≡ suc n → m ≡ n
 one-less m n e = omega (arith, e)
 
-some-once : (m n : ℕ) → ◌≡◌ {A = Option ℕ} (Some m) (Some n) → m ≡ n
-some-once m n e = cc
+some-once : {A : Type 0} (x y : A) → ◌≡◌ {A = Option A} (Some x) (Some y) → x ≡ y
+some-once x y e = cc
 
 -- ---- where the partitions were
 
@@ -34,8 +28,8 @@ begins-from (r ∷ rows) (suc i) row get = begins-from rows i row get
 -- at the checkpoints of the rows before
 pub places-from : (before rows : List Row) → length before ≡ length rows → (i : ℕ) (row : Row) → slice_get rows i ≡ Some row → slice_get (places_of before) i ≡ Some (from_of (slice_get before i) row)
 places-from [] [] number i row get = let never : ⊥ = cc in absurd never
-places-from [] (r ∷ rows) number i row get = absurd (none-longer (length rows) number)
-places-from (b ∷ before) [] number i row get = absurd (none-longer (length before) (sym number))
+places-from [] (r ∷ rows) number i row get = absurd (omega (arith, number))
+places-from (b ∷ before) [] number i row get = absurd (omega (arith, number))
 places-from (b ∷ before) (r ∷ rows) number zero row get = refl
 places-from (b ∷ before) (r ∷ rows) number (suc i) row get = places-from before rows (one-less (length before) (length rows) number) i row get
 
@@ -53,12 +47,6 @@ module _ (f : Function) (rules : RulesRecord) (first : ℕ) (items : List (List 
       → ((i : ℕ) (row : Row) (one : List (List ℕ)) (new : NewOutput) → slice_get rows i ≡ Some row → slice_get results i ≡ Some one → slice_get new_output i ≡ Some new → IsNewOutputOf f rules first items (b i) row one new)
       → (stops : List (Option Note)) × (all_new_output (progresses_since f first items from rows results stops) ≡ new_output) × AreStopsNamed f rules items rows stops
   listed b [] [] [] [] fs rs ns starts each = ([], refl, tt)
-  listed b [] [] [] (new ∷ new_output) fs rs ns starts each = absurd (none-longer (length new_output) (sym ns))
-  listed b [] [] (one ∷ results) new_output fs rs ns starts each = absurd (none-longer (length results) (sym rs))
-  listed b [] (row ∷ rows) results new_output fs rs ns starts each = absurd (none-longer (length rows) fs)
-  listed b (at ∷ from) [] results new_output fs rs ns starts each = absurd (none-longer (length from) (sym fs))
-  listed b (at ∷ from) (row ∷ rows) [] new_output fs rs ns starts each = absurd (none-longer (length rows) rs)
-  listed b (at ∷ from) (row ∷ rows) (one ∷ results) [] fs rs ns starts each = absurd (none-longer (length rows) ns)
   listed b (at ∷ from) (row ∷ rows) (one ∷ results) (new ∷ new_output) fs rs ns starts each =
       let here = each 0 row one new refl refl refl in
       let begins = some-once at (from_of (b 0) row) (starts 0 row refl) in
@@ -68,6 +56,7 @@ module _ (f : Function) (rules : RulesRecord) (first : ℕ) (items : List (List 
         ap (λ n. n ∷ all_new_output (progresses_since f first items from rows results more.0)) (one-is at (b 0) row one new here begins) ∙ ap (λ ns. new ∷ ns) more.1,
         (here.agrees.named, more.2),
       )
+  listed b _ _ _ _ fs rs ns starts each = absurd (omega (arith, fs, rs, ns))
 
   -- ---- they can grow
 
@@ -114,46 +103,31 @@ module _ (f : Function) (rules : RulesRecord) (first : ℕ) (items : List (List 
       subst (IsNewOutputOf f rules first items (b 0) row one) same (last row one get results_get)
   each-more b rows results [] n each last (suc i) row one new get results_get new_output_get = let never : ⊥ = cc in absurd never
   each-more b rows results (m ∷ new_output) n each last zero row one new get results_get new_output_get = each 0 row one new get results_get new_output_get
-  each-more b [] results (m ∷ new_output) n each last (suc i) row one new get results_get new_output_get = let never : ⊥ = cc in absurd never
-  each-more b (r ∷ rows) [] (m ∷ new_output) n each last (suc i) row one new get results_get new_output_get = let never : ⊥ = cc in absurd never
   each-more b (r ∷ rows) (o ∷ results) (m ∷ new_output) n each last (suc i) row one new get results_get new_output_get =
       each-more (λ j. b (suc j)) rows results new_output n (λ j r2 o2 n2 x y z. each (suc j) r2 o2 n2 x y z) (λ r2 o2 x y. last r2 o2 x y) i row one new get results_get new_output_get
+  each-more b _ _ (m ∷ new_output) n each last (suc i) row one new get results_get new_output_get = let never : ⊥ = cc in absurd never
 
 -- the next of the results, and those behind it
-pub next-left : (n : ℕ) (results : List (List (List ℕ))) (one : List (List ℕ)) (rest : List (List (List ℕ))) → one ∷ rest ≡ drop n results → slice_get results n ≡ Some one
-next-left zero [] one rest is = let never : ⊥ = cc in absurd never
-next-left zero (r ∷ results) one rest is = let same : one ≡ r = cc in ap Some (sym same)
-next-left (suc n) [] one rest is = let never : ⊥ = cc in absurd never
-next-left (suc n) (r ∷ results) one rest is = next-left n results one rest is
-
-pub rest-left : (n : ℕ) (results : List (List (List ℕ))) (one : List (List ℕ)) (rest : List (List (List ℕ))) → one ∷ rest ≡ drop n results → rest ≡ drop (n + 1) results
-rest-left zero [] one rest is = let never : ⊥ = cc in absurd never
-rest-left zero (r ∷ results) one rest is = cc
-rest-left (suc n) [] one rest is = let never : ⊥ = cc in absurd never
-rest-left (suc n) (r ∷ results) one rest is = let next : suc n + 1 ≡ suc (n + 1) = omega arith in rest-left n results one rest is ∙ sym (ap (λ k. drop k (r ∷ results)) next)
-
-pub left-within : (n : ℕ) (results : List (List (List ℕ))) (one : List (List ℕ)) (rest : List (List (List ℕ))) → one ∷ rest ≡ drop n results → n + 1 ≤ length results
-left-within zero [] one rest is = let never : ⊥ = cc in absurd never
-left-within zero (r ∷ results) one rest is = omega arith
-left-within (suc n) [] one rest is = let never : ⊥ = cc in absurd never
-left-within (suc n) (r ∷ results) one rest is = let more = left-within n results one rest is in omega (arith, more)
+pub next-left : (n : ℕ) (results : List (List (List ℕ))) (one : List (List ℕ)) (rest : List (List (List ℕ))) → one ∷ rest ≡ drop n results
+    → (slice_get results n ≡ Some one) × (rest ≡ drop (n + 1) results) × (n + 1 ≤ length results)
+next-left zero (r ∷ results) one rest is = let same : r ≡ one = cc in (ap Some same, cc, omega arith)
+next-left (suc n) (r ∷ results) one rest is =
+    let more = next-left n results one rest is in
+    let few = more.2 in
+    let next : suc n + 1 ≡ suc (n + 1) = omega arith in
+    (more.0, more.1 ∙ sym (ap (λ k. drop k (r ∷ results)) next), omega (arith, few))
+next-left _ _ one rest is = let never : ⊥ = cc in absurd never
 
 pub at-end : (n : ℕ) (results : List (List (List ℕ))) → [] ≡ drop n results → n ≤ length results → n ≡ length results
 at-end n results is few = let gone : 0 ≡ length results - n = ap length is ∙ length-drop n results in omega (arith, gone, few)
-
-some-row : (a b : Row) → ◌≡◌ {A = Option Row} (Some a) (Some b) → a ≡ b
-some-row a b e = cc
-
-some-list : (a b : List (List ℕ)) → ◌≡◌ {A = Option (List (List ℕ))} (Some a) (Some b) → a ≡ b
-some-list a b e = cc
 
 -- what a call answered of one partition
 pub one-get : (f : Function) (rules : RulesRecord) (first : ℕ) (items : List (List ℕ)) (before rows : List Row) (results : List (List (List ℕ))) (n m : ℕ) (row other : Row) (one o : List (List ℕ)) (new : NewOutput) (was : Option Row)
     → n ≡ m → slice_get rows n ≡ Some row → slice_get results n ≡ Some one → was ≡ slice_get before n → CanAllGrow f rules items before rows → (CanGrow f rules items was row → IsNewOutputOf f rules first items was row one new)
     → slice_get rows m ≡ Some other → slice_get results m ≡ Some o → IsNewOutputOf f rules first items (slice_get before m) other o new
 one-get f rules first items before rows results n m row other one o new was same here there was-is can call get o-get =
-    let row-is : row ≡ other = some-row row other (sym here ∙ ap (slice_get rows) same ∙ get) in
-    let one-is : one ≡ o = some-list one o (sym there ∙ ap (slice_get results) same ∙ o-get) in
+    let row-is : row ≡ other = some-once row other (sym here ∙ ap (slice_get rows) same ∙ get) in
+    let one-is : one ≡ o = some-once one o (sym there ∙ ap (slice_get results) same ∙ o-get) in
     let agrees = call (subst (λ (b : Option Row). CanGrow f rules items b row) (sym was-is) (can n row here)) in
     subst (λ (b : Option Row). IsNewOutputOf f rules first items b other o new) (was-is ∙ ap (slice_get before) same)
     (subst (λ (x : List (List ℕ)). IsNewOutputOf f rules first items was other x new) one-is (subst (λ (r : Row). IsNewOutputOf f rules first items was r one new) row-is agrees))

@@ -1,8 +1,8 @@
 -- What is read of intervals is what the place of their slice has.
 use Rattle.std.proofs.Common.{ℕ, ◌≡◌, ◌≢◌, List, [], ◌∷◌, length, replicate, refl, sym, ap, ◌∙◌, arith}
 use Rattle.jb_slices.specs.Checkpoint.{Begins, Checkpoint, GoesOn, Header, Progress}
-use Rattle.jb_slices.specs.Partitions.{grown}
 use Rattle.jb_slices.specs.Slice.{SliceState, led, next, slice_state, start}
+use Rattle.jb_slices.specs.Partitions.{grown}
 use Rattle.jb_slice_run.specs.Held.{AreIntervalsOf, PlacesAreRead, limits_led, new_output_grown, new_output_led, no_new_output, one_grown}
 use Rattle.jb_slice_run.specs.Strings.{NewOutput, all_new_output, new_output_of}
 
@@ -13,9 +13,8 @@ limits_there at count (GoesOn i ∷ cs) all = limits_there (next at (GoesOn i)) 
 
 grown_new_output : (ps qs : List Progress) → length ps ≡ length qs → new_output_grown (all_new_output ps) (all_new_output qs) ≡ all_new_output (grown ps qs)
 grown_new_output [] [] same = refl
-grown_new_output [] (q ∷ qs) same = absurd (omega (arith, same))
-grown_new_output (p ∷ ps) [] same = absurd (omega (arith, same))
 grown_new_output (p ∷ ps) (q ∷ qs) same = ap (λ ns. one_grown (new_output_of p) (new_output_of q) ∷ ns) (grown_new_output ps qs (omega (arith, same)))
+grown_new_output _ _ same = absurd (omega (arith, same))
 
 grown_length : (ps qs : List Progress) → length ps ≡ length qs → length (grown ps qs) ≡ length qs
 grown_length [] qs same = refl

@@ -1,15 +1,13 @@
 -- Lists that are written one member after the other.
 use Rattle.std.proofs.Common.{ℕ, ◌≡◌, ◌<◌, ◌≤◌, ◌+◌, ◌^◌, List, [], ◌∷◌, ◌++◌, length, map, take, get_or, flat_map, refl, sym, ap, subst, ◌∙◌, append_assoc, arith}
+use Rattle.std.proofs.{lemmas.Grind.flat_map-append, lemmas.List.append-nil, lemmas.List.map-append, lemmas.List.take_more}
 use Rattle.std.specs.List.{AllByRecursion}
-use Rattle.std.proofs.lemmas.Grind.{flat_map-append}
-use Rattle.std.proofs.lemmas.List.{append-nil, map-append, take_more}
 use Rattle.json.specs.Token.{Token, begin_array, end_array, key, string as string_token}
 use Rattle.serde_json.specs.Data.{string}
 use Rattle.jb_job.specs.JobTree.{list_tree}
-use Rattle.jb_slice_run.specs.Members.{member_tokens}
+use Rattle.jb_slice_run.specs.{Members.member_tokens, Coding.IsShort}
 use Rattle.jb_saved.specs.SavedTree.{tokens_of}
 use Rattle.jb_saved.proofs.Written.{list-written}
-use Rattle.jb_slice_run.specs.Coding.{IsShort}
 use Rattle.jb_slice_run.proofs.Each.{each_at}
 
 module _ {A : Type 0} (xs : List A) (i : ℕ) (d x : A) (within : i < length xs) (is : x ≡ get_or xs i d) where

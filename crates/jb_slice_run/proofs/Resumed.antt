@@ -1,50 +1,26 @@
 -- A slice after its checkpoints.
-use Rattle.std.proofs.Common.{◌≡◌, ℕ, zero, suc, ◌-◌, ◌≤◌, ◌++◌, cond, true, true≢false, List, [], ◌∷◌, length, map, take, None, Some, Result, Ok, refl, ap, sym, subst, ◌∙◌, arith}
+use Rattle.std.proofs.Common.{◌≡◌, ℕ, ◌+◌, ◌-◌, ◌≤◌, ◌++◌, cond, true≢false, List, [], ◌∷◌, length, map, take, take_all, None, Some, Result, Ok, refl, ap, sym, subst, ◌∙◌, arith}
+use Rattle.std.proofs.{lemmas.List.map-append, lemmas.List.take_more, lemmas.Option.get_or_from_slice_get, lemmas.Option.slice_get-get_or}
 use Rattle.std.specs.Prelude.{Contains, slice_get}
 use Rattle.jb_base.specs.Rules.{RulesRecord}
 use Rattle.jb_job.specs.Reading.{tree_of}
 use Rattle.jb_mapper.specs.EvenCover.{even_ranges}
 use Rattle.jb_repo.specs.Openable.{AreIdle}
-use Rattle.jb_rules.specs.Rows.{dropped_row}
-use Rattle.jb_rules.specs.States.{is_failed}
-use Rattle.jb_rules.specs.declared.row.Row.{Row}
-use Rattle.jb_rules.specs.declared.row.RowState.TheVariants.{Finished}
-use Rattle.jb_saved.specs.GoingOn.{restarted, rows_restarted}
-use Rattle.jb_saved.specs.Reading.{answer_of}
-use Rattle.jb_saved.specs.SavedRows.{SavedRows}
-use Rattle.jb_saved.specs.declared.place.SavedPlace.{SavedPlace}
-use Rattle.jb_records.specs.Following.{AreRulesRaised, FollowRules, ranges_of}
-use Rattle.jb_records.specs.FollowingLaws.{RaisedRulesFollow, RestartsKeepRanges}
-use Rattle.jb_records.specs.Function.{steady}
-use Rattle.jb_records.specs.PartitionResults.{AreAtTheirEnds, IsSoFar}
-use Rattle.jb_records.specs.Intervals.{ResumesFrom, GoesBy, RunState, StandsOver}
-use Rattle.jb_records.specs.declared.step.RecordsStep.{RecordsStep}
-use Rattle.jb_slice_file.specs.CheckpointBytes.{CheckpointBytes, checkpoint_bytes}
-use Rattle.jb_slice_file.specs.declared.checkpoint.Checkpoint.{Checkpoint as HeldCheckpoint}
+use Rattle.jb_rules.specs.{Rows.dropped_row, States.is_failed, declared.row.Row.Row, declared.row.RowState.TheVariants.Finished}
+use Rattle.jb_saved.specs.{GoingOn.restarted, GoingOn.rows_restarted, Reading.answer_of, SavedRows.SavedRows, declared.place.SavedPlace.SavedPlace}
+use Rattle.jb_records.specs.{Following.FollowRules, Following.ranges_of, FollowingLaws.FaultsAreOfItems, FollowingLaws.RaisedRulesFollow, FollowingLaws.RestartsKeepRanges, Function.steady, PartitionResults.AreAtTheirEnds, PartitionResults.IsSoFar}
+use Rattle.jb_records.specs.{Intervals.ResumesFrom, Intervals.GoesBy, Intervals.RunState, Intervals.StandsOver, declared.step.RecordsStep.RecordsStep}
+use Rattle.jb_slice_file.specs.{CheckpointBytes.CheckpointBytes, CheckpointBytes.checkpoint_bytes, declared.checkpoint.Checkpoint.Checkpoint as HeldCheckpoint}
 use Rattle.jb_slices.specs.Checkpoint.{Begins, Checkpoint, GoesOn, Header, Interval, Progress, header_of}
-use Rattle.jb_slices.specs.Function.{Function}
 use Rattle.jb_slices.specs.Job.{AreRaised, Job, Limits, first_of, rules_of}
-use Rattle.jb_slices.specs.Partitions as partitions
-use Rattle.jb_slices.specs.Partitions.{AreFinished, ArePartitionsSoFar, grown}
 use Rattle.jb_slices.specs.Slice.{Follow, Functions, IsInterval, IsStateSoFar, IsSliceSoFar, SliceState, led, next, slice_state, start}
-use Rattle.jb_slice_run.specs.Causes.{IsFirstOwn}
-use Rattle.jb_slice_run.specs.Held.{AreIntervalsOf, HasRead, PlacesAreRead, limits_in, limits_led, new_output_in}
-use Rattle.jb_slice_run.specs.Jobs.{kept_stamps, own_header, stamps_in}
-use Rattle.jb_slice_run.specs.SliceBytes.{AreStoredAs, IsStoredAs, KeepsSlice}
-use Rattle.jb_slice_run.specs.Laws.{BeginsWithHeader, EachIsStoredAsOne, StoredAsOne, SlicesBeginWithHeaders}
-use Rattle.jb_slice_run.specs.RowLaws.{EndsAreOfRows, EvenRowsAreInOrder, IdleRowsArePlaced, SoFarAreRows, StampsAreOf}
-use Rattle.jb_slice_run.specs.Rows.{ArePlaced, results_in, rows_in}
-use Rattle.jb_slice_run.specs.Refusals.{IsOwn}
-use Rattle.jb_slice_run.specs.Step.{AreStampsOf}
-use Rattle.jb_slice_run.specs.Strings.{NewOutput, all_new_output}
-use Rattle.jb_slice_run.specs.Whole.{KeepsWhole}
-use Rattle.jb_slice_run.specs.Work.{HasNoResults, HasIntervals, RunsSlice, SliceStandsAt}
-use Rattle.jb_slice_run.specs.declared.job.SliceJob.{SliceJob}
-use Rattle.jb_slice_run.specs.declared.partition_output.HeldSlice.{HeldSlice}
-use Rattle.jb_slice_run.specs.declared.partition_output.PartitionOutput.{PartitionOutput}
-use Rattle.jb_slice_run.proofs.RowsGrown.{ranges-in}
-use Rattle.jb_slice_run.specs.declared.resumable_run.Stage.{Stage}
-use Rattle.jb_slice_run.specs.declared.resumable_run.Stage.TheVariants.{HeaderOnly, NoCheckpoint}
+use Rattle.jb_slices.specs.{Function.Function, Partitions.AreFinished, Partitions.ArePartitionsSoFar, Partitions.grown}
+use Rattle.jb_slices.specs.Partitions as partitions
+use Rattle.jb_slice_run.specs.Held.{AreIntervalsOf, HasRead, limits_in, limits_led, new_output_in}
+use Rattle.jb_slice_run.specs.{Causes.IsFirstOwn, Jobs.job_in, Jobs.kept_stamps, Jobs.own_header, Jobs.stamps_in, SliceBytes.AreStoredAs, SliceBytes.IsStoredAs, SliceBytes.KeepsSlice, Laws.BeginsWithHeader, Rows.ArePlaced, Rows.results_in, Rows.rows_in, Refusals.IsOwn}
+use Rattle.jb_slice_run.specs.{Step.AreStampsOf, Strings.NewOutput, Strings.all_new_output, Whole.KeepsWhole, Work.HasNoResults, Work.HasIntervals, Work.RunsSlice, Work.SliceStandsAt, declared.job.SliceJob.SliceJob, declared.partition_output.HeldSlice.HeldSlice}
+use Rattle.jb_slice_run.specs.{declared.partition_output.PartitionOutput.PartitionOutput, declared.resumable_run.Stage.Stage, declared.resumable_run.Stage.TheVariants.HeaderOnly, declared.resumable_run.Stage.TheVariants.NoCheckpoint}
+use Rattle.jb_slice_run.proofs.{Beginning.begins_with_header, Places.places_are_read, RowsEnded.ends-of, RowsEnded.even-order, RowsEnded.idle-placed, RowsEnded.stamps-of, RowsGrown.ranges-in, RowsSoFar.so-far-rows, Telling.all_once, Telling.each_once}
 use Rattle.jb_slice_run.proofs.Working.{last-next, led-more, stands-as}
 
 pub header-once : (h k : Header) → Begins h ≡ Begins k → h ≡ k
@@ -55,15 +31,13 @@ saved-once x y e = cc
 
 -- ---- the last of the checkpoints
 
-split-at-last : (n : ℕ) (xs : List HeldCheckpoint) (x : HeldCheckpoint) → length xs ≡ suc n → slice_get xs n ≡ Some x → map checkpoint_bytes xs ≡ map checkpoint_bytes (take n xs) ++ checkpoint_bytes x ∷ []
-split-at-last n [] x number is = absurd (omega (arith, number))
-split-at-last zero (y ∷ []) x number is = let same : y ≡ x = cc in ap (λ z. checkpoint_bytes z ∷ []) same
-split-at-last zero (y ∷ (z ∷ xs)) x number is = absurd (omega (arith, number))
-split-at-last (suc n) (y ∷ xs) x number is = ap (λ l. checkpoint_bytes y ∷ l) (split-at-last n xs x (omega (arith, number)) is)
-
 pub split-last : (xs : List HeldCheckpoint) (x : HeldCheckpoint) → slice_get xs (length xs - 1) ≡ Some x → map checkpoint_bytes xs ≡ map checkpoint_bytes (take (length xs - 1) xs) ++ checkpoint_bytes x ∷ []
 split-last [] x is = let none : ⊥ = cc in absurd none
-split-last (y ∷ xs) x is = split-at-last (length (y ∷ xs) - 1) (y ∷ xs) x (omega arith) is
+split-last (y ∷ ys) x is =
+    let n = length (y ∷ ys) - 1 in
+    ap (map checkpoint_bytes)
+    (sym (take_all (n + 1) (y ∷ ys) (omega arith)) ∙ take_more (y ∷ ys) n x (omega arith) ∙ ap (λ z. take n (y ∷ ys) ++ z ∷ []) (get_or_from_slice_get (y ∷ ys) n x x is))
+    ∙ map-append checkpoint_bytes (take n (y ∷ ys)) (x ∷ [])
 
 -- an interval is kept as the last one
 pub record EndsWith (count : ℕ) (cs : List Checkpoint) (last : CheckpointBytes) : Type 0 where
@@ -108,10 +82,7 @@ results-of-places : (ps : List Progress) → map (λ (n : NewOutput). n.results)
 results-of-places [] = refl
 results-of-places (p ∷ ps) = ap (λ rs. p.results ∷ rs) (results-of-places ps)
 
--- ---- raised limits
-
-raised-rules : (job : Job) (before after : Limits) → AreRaised before after → AreRulesRaised (rules_of job before) (rules_of job after)
-raised-rules job before after raised = record { skippable = refl; skips = raised.skips }
+-- ---- rows at their ends
 
 finished-again : (row : Row) → row.state ≡ Finished → restarted row ≡ row
 finished-again row is = ap (λ s. cond (is_failed s) (dropped_row row) row) is
@@ -122,121 +93,126 @@ whole-after (row ∷ rows) whole = (ap (λ (r : Row). r.state) (finished-again r
 
 -- ---- a run that begins behind a text
 
-pub behind-of : (id a b : List ℕ) (x y : List (List (List ℕ))) (s : RunState) → a ≡ b → x ≡ y → ResumesFrom id a x s → ResumesFrom id b y s
-behind-of id a b x y s text partition_results behind = subst (λ (t : List ℕ). ResumesFrom id t y s) text (subst (λ (z : List (List (List ℕ))). ResumesFrom id a z s) partition_results behind)
+pub behind-of : {id a b : List ℕ} {x y : List (List (List ℕ))} {s : RunState} → a ≡ b → x ≡ y → ResumesFrom id a x s → ResumesFrom id b y s
+behind-of {id = id} {a = a} {y = y} {s = s} text results behind = subst (λ (t : List ℕ). ResumesFrom id t y s) text (subst (λ (z : List (List (List ℕ))). ResumesFrom id a z s) results behind)
 
-pub ended-before : (id text : List ℕ) (partition_results : List (List (List ℕ))) (s : RunState) (saved : SavedRows) (rows : List Row) → ResumesFrom id text partition_results s → answer_of (tree_of text) ≡ Ok saved → rows ≡ saved.rows
+pub ended-before : {id text : List ℕ} {results : List (List (List ℕ))} {s : RunState} {saved : SavedRows} {rows : List Row} → ResumesFrom id text results s → answer_of (tree_of text) ≡ Ok saved → rows ≡ saved.rows
     → AreAtTheirEnds s.setup.rows → AreAtTheirEnds rows
-ended-before id text partition_results s saved rows behind read rows_are whole =
+ended-before {saved = saved} behind read rows_are whole =
     subst AreAtTheirEnds (ap (λ (x : SavedRows). x.rows) (saved-once behind.held saved (sym behind.read ∙ read)) ∙ sym rows_are) (behind.whole whole)
 
 -- ---- WHAT THE CHECKPOINTS HAVE
 
-module _ (begins : SlicesBeginWithHeaders) (each : EachIsStoredAsOne) (read : PlacesAreRead) (back : SoFarAreRows) (order : EvenRowsAreInOrder) (idle : IdleRowsArePlaced) (raises : RaisedRulesFollow)
-    (ranges : RestartsKeepRanges) where
-  module _ (job : Job) (functions : Functions) (f : Function) (limits began : Limits) (number : ℕ) (items : List (List ℕ)) (some : 1 ≤ job.partitions) (first : CheckpointBytes) (h : Header) (all : List CheckpointBytes)
-      (before : List CheckpointBytes) (last : CheckpointBytes) (last_is : all ≡ before ++ last ∷ []) (is : IsStoredAs (Begins h) first) (began_is : h.limits ≡ began) (stamp : functions h.stamp ≡ f)
-      (keeps : KeepsSlice job functions number items (first ∷ all)) where
-    abbrev pub opened : BeginsWithHeader job functions number items first all
-    opened = begins job functions number items first all keeps
+module _ (law : FaultsAreOfItems) (raises : RaisedRulesFollow) (ranges : RestartsKeepRanges) {job : Job} {functions : Functions} {f : Function} {limits began : Limits} {number : ℕ} {items : List (List ℕ)} {first : CheckpointBytes} {h : Header}
+    {all : List CheckpointBytes} {held : HeldSlice} {saved : SavedRows} (keeps : KeepsSlice job functions number items (first ∷ all)) (some : 1 ≤ job.partitions) (before : List CheckpointBytes) (last : CheckpointBytes) (last_is : all ≡ before ++ last ∷ [])
+    (is : IsStoredAs (Begins h) first) (began_is : h.limits ≡ began) (stamp : functions h.stamp ≡ f) (has : (cs : List Checkpoint) → AreStoredAs cs all → AreIntervalsOf job.partitions cs → HasRead began job.partitions cs held)
+    (text : answer_of (tree_of last.saved) ≡ Ok saved) (sound : AreIdle saved.rows) (raised : AreRaised (limits_in held.limits) limits) where
+  abbrev opened : BeginsWithHeader job functions number items first all
+  opened = begins_with_header job functions number items first all keeps
 
-    same-header : opened.header ≡ h
-    same-header = header-once opened.header h (each (Begins opened.header) (Begins h) first opened.header_kept is)
+  same-header : opened.header ≡ h
+  same-header = header-once opened.header h (each_once (Begins opened.header) (Begins h) first opened.header_kept is)
 
-    abbrev pub cs : List Checkpoint
-    cs = opened.intervals
+  abbrev cs : List Checkpoint
+  cs = opened.intervals
 
-    end : EndsWith job.partitions cs last
-    end = ends-with job.partitions cs before last (subst (AreStoredAs cs) last_is opened.intervals_kept) opened.are_intervals
+  read : HasRead began job.partitions cs held
+  read = has cs opened.intervals_kept opened.are_intervals
 
-    abbrev pub at : SliceState
-    at = slice_state (Begins opened.header ∷ cs)
+  end : EndsWith job.partitions cs last
+  end = ends-with job.partitions cs before last (subst (AreStoredAs cs) last_is opened.intervals_kept) opened.are_intervals
 
-    abbrev front : SliceState
-    front = led (next start (Begins opened.header)) end.front
+  abbrev begun : SliceState
+  begun = next start (Begins opened.header)
 
-    at-is : at ≡ next front (GoesOn end.interval)
-    at-is = ap (led (next start (Begins opened.header))) end.cs_are ∙ led-more (next start (Begins opened.header)) end.front (GoesOn end.interval)
+  abbrev at : SliceState
+  at = slice_state (Begins opened.header ∷ cs)
 
-    last-interval : IsInterval job functions number items front end.interval
-    last-interval = last-next job functions number items (next start (Begins opened.header)) end.front (GoesOn end.interval)
-        (subst (λ (ds : List Checkpoint). Follow job functions number items (next start (Begins opened.header)) ds) end.cs_are opened.so_far.1)
+  abbrev front : SliceState
+  front = led begun end.front
 
-    rows-there : rows_in at.partitions ≡ rows_in end.interval.partitions
-    rows-there = ap (λ (p : SliceState). rows_in p.partitions) at-is ∙ grown-rows front.partitions end.interval.partitions
+  at-is : at ≡ next front (GoesOn end.interval)
+  at-is = ap (led begun) end.cs_are ∙ led-more begun end.front (GoesOn end.interval)
 
-    stamp-there : functions at.stamp ≡ f
-    stamp-there = ap functions (led-stamp (next start (Begins opened.header)) job.partitions cs opened.are_intervals ∙ ap (λ (k : Header). k.stamp) same-header) ∙ stamp
+  last-interval : IsInterval job functions number items front end.interval
+  last-interval = last-next job functions number items begun end.front (GoesOn end.interval) (subst (Follow job functions number items begun) end.cs_are opened.so_far.1)
 
-    parts-there : ArePartitionsSoFar (functions at.stamp) (rules_of job at.limits) (first_of job number) 0 items at.partitions
-    parts-there = subst (IsStateSoFar job functions number items) (sym at-is) last-interval.so_far
+  saved-once-more : (id : List ℕ) (partition_results : List (List (List ℕ))) (s : RunState) → ResumesFrom id last.saved partition_results s → s.setup.rows ≡ map restarted saved.rows
+  saved-once-more id partition_results s behind = behind.rows ∙ ap rows_restarted (saved-once behind.held saved (sym behind.read ∙ text))
 
-    even-there : ranges_of (rows_in at.partitions) ≡ even_ranges (length items) job.partitions
-    even-there = sym (ranges-in at.partitions) ∙ ap (λ (p : SliceState). partitions.ranges_of p.partitions) at-is ∙ last-interval.ranges
+  saved-rows : rows_in at.partitions ≡ saved.rows
+  saved-rows = ap (λ (p : SliceState). rows_in p.partitions) at-is ∙ grown-rows front.partitions end.interval.partitions ∙ sym end.stored_as.rows
+      ∙ ap (λ (x : SavedRows). x.rows) (saved-once end.stored_as.held saved (sym end.stored_as.read ∙ text))
 
-    -- what is read of them
-    module _ (held : HeldSlice) (has : HasRead began job.partitions cs held) where
-      pub limits-there : limits_in held.limits ≡ at.limits
-      limits-there = has.limits ∙ ap (λ (l : Limits). limits_led l cs) (sym began_is ∙ ap (λ (k : Header). k.limits) (sym same-header)) ∙ (read opened.header job.partitions cs opened.are_intervals).0
+  stamp-there : functions at.stamp ≡ f
+  stamp-there = ap functions (led-stamp begun job.partitions cs opened.are_intervals ∙ ap (λ (k : Header). k.stamp) same-header) ∙ stamp
 
-      pub results-there : map (λ (n : PartitionOutput). n.results) held.partitions.items ≡ results_in at.partitions
-      results-there =
-          sym (results-of-new_output held.partitions.items)
-          ∙ ap (map (λ (n : NewOutput). n.results)) (has.new_output ∙ (read opened.header job.partitions cs opened.are_intervals).1 (λ none. some-there end.front (GoesOn end.interval) (sym end.cs_are ∙ none)))
-          ∙ results-of-places at.partitions
+  parts-there : IsStateSoFar job functions number items at
+  parts-there = subst (IsStateSoFar job functions number items) (sym at-is) last-interval.so_far
 
-      -- the rows of the last text
-      module _ (saved : SavedRows) (text : answer_of (tree_of last.saved) ≡ Ok saved) (sound : AreIdle saved.rows) (raised : AreRaised (limits_in held.limits) limits) where
-        saved-rows : rows_in at.partitions ≡ saved.rows
-        saved-rows = rows-there ∙ sym end.stored_as.rows ∙ ap (λ (x : SavedRows). x.rows) (saved-once end.stored_as.held saved (sym end.stored_as.read ∙ text))
+  even-there : ranges_of (rows_in at.partitions) ≡ even_ranges (length items) job.partitions
+  even-there = sym (ranges-in at.partitions) ∙ ap (λ (p : SliceState). partitions.ranges_of p.partitions) at-is ∙ last-interval.ranges
 
-        abbrev results : List (List (List ℕ))
-        results = map (λ (n : PartitionOutput). n.results) held.partitions.items
+  -- what is read of them
+  raised-there : AreRaised at.limits limits
+  raised-there =
+      subst (λ (l : Limits). AreRaised l limits)
+      (read.limits ∙ ap (λ (l : Limits). limits_led l cs) (sym began_is ∙ ap (λ (k : Header). k.limits) (sym same-header)) ∙ (places_are_read opened.header job.partitions cs opened.are_intervals).0) raised
 
-        both : IsSoFar (steady f) items (rows_in at.partitions) (results_in at.partitions) × FollowRules (steady f) (rules_of job at.limits) items (rows_in at.partitions)
-        both = back f (rules_of job at.limits) (first_of job number) items at.partitions
-            (subst (λ (g : Function). ArePartitionsSoFar g (rules_of job at.limits) (first_of job number) 0 items at.partitions) stamp-there parts-there)
-            (order (length items) job.partitions (rows_in at.partitions) some even-there) (subst ArePlaced (sym saved-rows) (idle saved.rows sound))
+  abbrev results : List (List (List ℕ))
+  results = map (λ (n : PartitionOutput). n.results) held.partitions.items
 
-        pub so-far-then : IsSoFar (steady f) items saved.rows results
-        so-far-then = subst (λ (r : List Row). IsSoFar (steady f) items r results) saved-rows (subst (IsSoFar (steady f) items (rows_in at.partitions)) (sym results-there) both.0)
+  results-there : results ≡ results_in at.partitions
+  results-there =
+      sym (results-of-new_output held.partitions.items)
+      ∙ ap (map (λ (n : NewOutput). n.results)) (read.new_output ∙ (places_are_read opened.header job.partitions cs opened.are_intervals).1 (λ none. some-there end.front (GoesOn end.interval) (sym end.cs_are ∙ none)))
+      ∙ results-of-places at.partitions
 
-        pub follow-then : (step : RecordsStep) → step.rules ≡ rules_of job limits → FollowRules (steady f) step.rules items (rows_restarted saved)
-        follow-then step rules =
-            subst (λ (r : RulesRecord). FollowRules (steady f) r items (rows_restarted saved)) (sym rules)
-            (raises (steady f) (rules_of job at.limits) (rules_of job limits) items saved (raised-rules job at.limits limits (subst (λ (l : Limits). AreRaised l limits) limits-there raised))
-            (subst (FollowRules (steady f) (rules_of job at.limits) items) saved-rows both.1))
+  -- the rows of the last text
+  both : IsSoFar (steady f) items (rows_in at.partitions) (results_in at.partitions) × FollowRules (steady f) (rules_of job at.limits) items (rows_in at.partitions)
+  both = so-far-rows law f (rules_of job at.limits) (first_of job number) items at.partitions
+      (subst (λ (g : Function). ArePartitionsSoFar g (rules_of job at.limits) (first_of job number) 0 items at.partitions) stamp-there parts-there)
+      (even-order (length items) job.partitions (rows_in at.partitions) some even-there) (subst ArePlaced (sym saved-rows) (idle-placed saved.rows sound))
 
-        -- behind them the run stands
-        pub underway : (step : RecordsStep) (s : RunState) (rows : List Row) → step.rules ≡ rules_of job limits → rows ≡ saved.rows → ResumesFrom step.id last.saved results s → GoesBy step s → StandsOver (steady f) items s
-            → HasIntervals job functions f limits number items s rows (first ∷ all)
-        underway step s rows rules rows_are behind by stands =
-            let read-same = saved-once behind.held saved (sym behind.read ∙ text) in
-            let again : s.setup.rows ≡ rows_restarted saved = behind.rows ∙ ap rows_restarted read-same in
-            record {
-              checkpoints = Begins opened.header ∷ cs;
-              keeps = record {
-                stored_as = (opened.header_kept, opened.intervals_kept);
-                so_far = opened.so_far;
-                begun = ap (λ (p : SliceState). p.begun) at-is ∙ last-interval.begun;
-                stamp_is = stamp-there;
-                raised = subst (λ (l : Limits). AreRaised l limits) limits-there raised;
-              };
-              rows_are = saved-rows ∙ sym rows_are;
-              partition_results_are = sym results-there ∙ sym behind.partition_results_are;
-              partitions = parts-there;
-              runs = record { stands = stands; rules_are = by.rules_are ∙ rules; ranges = ap ranges_of again ∙ ranges saved ∙ ap ranges_of (sym saved-rows) ∙ even-there };
-              again = again ∙ ap (map restarted) (sym rows_are);
-            }
+  so-far-then : IsSoFar (steady f) items saved.rows results
+  so-far-then = subst (λ (r : List Row). IsSoFar (steady f) items r results) saved-rows (subst (IsSoFar (steady f) items (rows_in at.partitions)) (sym results-there) both.0)
 
-        -- and behind those of a whole slice nothing waits
-        pub whole-again : StoredAsOne → EndsAreOfRows → KeepsWhole job functions limits number items (first ∷ all) → (id : List ℕ) (partition_results : List (List (List ℕ))) (s : RunState) → ResumesFrom id last.saved partition_results s
-            → AreAtTheirEnds s.setup.rows
-        whole-again once ends whole id partition_results s behind =
-            let same = once whole.checkpoints (Begins opened.header ∷ cs) (first ∷ all) whole.stored_as (opened.header_kept, opened.intervals_kept) in
-            let finished : AreFinished at.partitions = subst (λ (ds : List Checkpoint). AreFinished (slice_state ds).partitions) same whole.whole.finished in
-            let read-same = saved-once behind.held saved (sym behind.read ∙ text) in
-            subst AreAtTheirEnds (sym (behind.rows ∙ ap rows_restarted read-same)) (whole-after saved.rows (subst AreAtTheirEnds saved-rows ((ends at.partitions).0.0 finished)))
+  follow-then : FollowRules (steady f) (rules_of job limits) items (rows_restarted saved)
+  follow-then =
+      raises (steady f) (rules_of job at.limits) (rules_of job limits) items saved (record { skippable = refl; skips = raised-there.skips })
+      (subst (FollowRules (steady f) (rules_of job at.limits) items) saved-rows both.1)
+
+  -- behind them the run stands
+  pub underway : (step : RecordsStep) (s : RunState) (rows : List Row) → step.rules ≡ rules_of job limits → rows ≡ saved.rows → ResumesFrom step.id last.saved results s → GoesBy step s
+      → (IsSoFar (steady f) items saved.rows results → FollowRules (steady f) step.rules items (rows_restarted saved) → StandsOver (steady f) items s) → HasIntervals job functions f limits number items s rows (first ∷ all)
+  underway step s rows rules rows_are behind by stands =
+      let again = saved-once-more step.id results s behind in
+      record {
+        checkpoints = Begins opened.header ∷ cs;
+        keeps = record {
+          stored_as = (opened.header_kept, opened.intervals_kept);
+          so_far = opened.so_far;
+          begun = ap (λ (p : SliceState). p.begun) at-is ∙ last-interval.begun;
+          stamp_is = stamp-there;
+          raised = raised-there;
+        };
+        rows_are = saved-rows ∙ sym rows_are;
+        partition_results_are = sym results-there ∙ sym behind.partition_results_are;
+        partitions = parts-there;
+        runs = record {
+          stands = stands so-far-then (subst (λ (r : RulesRecord). FollowRules (steady f) r items (rows_restarted saved)) (sym rules) follow-then);
+          rules_are = by.rules_are ∙ rules;
+          ranges = ap ranges_of again ∙ ranges saved ∙ ap ranges_of (sym saved-rows) ∙ even-there;
+        };
+        again = again ∙ ap (map restarted) (sym rows_are);
+      }
+
+  -- and behind those of a whole slice nothing waits
+  pub whole-again : KeepsWhole job functions limits number items (first ∷ all) → (id : List ℕ) (partition_results : List (List (List ℕ))) (s : RunState) → ResumesFrom id last.saved partition_results s → AreAtTheirEnds s.setup.rows
+  whole-again whole id partition_results s behind =
+      let same = all_once whole.checkpoints (Begins opened.header ∷ cs) (first ∷ all) whole.stored_as (opened.header_kept, opened.intervals_kept) in
+      let finished : AreFinished at.partitions = subst (λ (ds : List Checkpoint). AreFinished (slice_state ds).partitions) same whole.whole.finished in
+      subst AreAtTheirEnds (sym (saved-once-more id partition_results s behind)) (whole-after saved.rows (subst AreAtTheirEnds saved-rows ((ends-of at.partitions).0.0 finished)))
 
 -- ---- no interval is kept
 
@@ -249,20 +225,18 @@ stands-blank job functions f limits number items stamp own first stage s rows al
       no-rows,
     )
 
-pub stands-begun : SlicesBeginWithHeaders → EachIsStoredAsOne → (job : Job) (functions : Functions) (f : Function) (limits began : Limits) (number : ℕ) (items : List (List ℕ)) (first : CheckpointBytes) (h : Header) (stage : Stage) (s : RunState) (rows : List Row)
+pub stands-begun : (job : Job) (functions : Functions) (f : Function) (limits began : Limits) (number : ℕ) (items : List (List ℕ)) (first : CheckpointBytes) (h : Header) (stage : Stage) (s : RunState) (rows : List Row)
     (all : List CheckpointBytes) → all ≡ first ∷ [] → IsStoredAs (Begins h) first → h.limits ≡ began → functions h.stamp ≡ f → KeepsSlice job functions number items all → AreRaised began limits → RunsSlice job f limits items s → HasNoResults s
     → stage ≡ HeaderOnly → rows ≡ [] → SliceStandsAt job functions f limits number items stage s rows all
-stands-begun begins each job functions f limits began number items first h stage s rows all alone kept-as began-is stamp keeps raised runs empty stage-is no-rows =
-    let opened = begins job functions number items first [] (subst (KeepsSlice job functions number items) alone keeps) in
-    let same = header-once opened.header h (each (Begins opened.header) (Begins h) first opened.header_kept kept-as) in
-    let none = no-intervals opened.intervals opened.intervals_kept in
-    let so-far : IsSliceSoFar job functions number items (Begins opened.header ∷ []) = subst (λ (cs : List Checkpoint). IsSliceSoFar job functions number items (Begins opened.header ∷ cs)) none opened.so_far in
+stands-begun job functions f limits began number items first h stage s rows all alone kept-as began-is stamp keeps raised runs empty stage-is no-rows =
+    let opened = begins_with_header job functions number items first [] (subst (KeepsSlice job functions number items) alone keeps) in
+    let same = header-once opened.header h (each_once (Begins opened.header) (Begins h) first opened.header_kept kept-as) in
     stands-as job functions f limits number items HeaderOnly stage s rows all (sym stage-is) (
       record {
         checkpoints = Begins opened.header ∷ [];
         keeps = record {
           stored_as = subst (AreStoredAs (Begins opened.header ∷ [])) (sym alone) (opened.header_kept, tt);
-          so_far = so-far;
+          so_far = subst (λ (cs : List Checkpoint). IsSliceSoFar job functions number items (Begins opened.header ∷ cs)) (all_once opened.intervals [] [] opened.intervals_kept tt) opened.so_far;
           begun = refl;
           stamp_is = ap (λ (k : Header). functions k.stamp) same ∙ stamp;
           raised = subst (λ (l : Limits). AreRaised l limits) (sym (ap (λ (k : Header). k.limits) same ∙ began-is)) raised;
@@ -273,16 +247,17 @@ stands-begun begins each job functions f limits began number items first h stage
       },
       no-rows,
     )
-  where
-    no-intervals : (cs : List Checkpoint) → AreStoredAs cs [] → cs ≡ []
-    no-intervals [] are = refl
-    no-intervals (c ∷ _) are = absurd are
 
 -- ---- whose it is
 
-pub stamp-of : StampsAreOf → (functions : Functions) (f : Function) (j : SliceJob) (number : ℕ) (items : List (List ℕ)) (own h : Header) → own ≡ own_header j number items → AreStampsOf functions f (stamps_in j) → IsOwn own (kept_stamps j) h
-    → functions h.stamp ≡ f
-stamp-of law functions f j number items own h is of owned = law functions f (stamps_in j) h.stamp of (subst (λ (o : Header). Contains (o.stamp ∷ kept_stamps j) h.stamp) is owned.stamp_is)
+-- the slice's header, which is our own, with its limits and its function
+pub opened-own : (j : SliceJob) (functions : Functions) (f : Function) (number : ℕ) (items : List (List ℕ)) (own : Header) (first : CheckpointBytes) (later all : List CheckpointBytes) (limits : Limits) → own ≡ own_header j number items
+    → AreStampsOf functions f (stamps_in j) → all ≡ first ∷ later → ((h : Header) → IsStoredAs (Begins h) first → IsOwn own (kept_stamps j) h) → ((h : Header) → IsStoredAs (Begins h) first → limits ≡ h.limits)
+    → KeepsSlice (job_in j) functions number items all → (h : Header) × IsStoredAs (Begins h) first × (h.limits ≡ limits) × (functions h.stamp ≡ f)
+opened-own j functions f number items own first later all limits is of all-is owned limits-are keeps =
+    let opened = begins_with_header (job_in j) functions number items first later (subst (KeepsSlice (job_in j) functions number items) all-is keeps) in
+    let h = opened.header in
+    (h, opened.header_kept, sym (limits-are h opened.header_kept), stamps-of functions f (stamps_in j) h.stamp of (subst (λ (o : Header). Contains (o.stamp ∷ kept_stamps j) h.stamp) is (owned h opened.header_kept).stamp_is))
 
 pub first-own : (j : SliceJob) (number : ℕ) (items : List (List ℕ)) (own : Header) (first : CheckpointBytes) (later all : List CheckpointBytes) → own ≡ own_header j number items → all ≡ first ∷ later
     → ((h : Header) → IsStoredAs (Begins h) first → IsOwn own (kept_stamps j) h) → IsFirstOwn (own_header j number items) (kept_stamps j) all
@@ -292,26 +267,21 @@ first-own j number items own first later all is all-is owned =
 pub none-own : (j : SliceJob) (number : ℕ) (items : List (List ℕ)) (all : List CheckpointBytes) → all ≡ [] → IsFirstOwn (own_header j number items) (kept_stamps j) all
 none-own j number items all none = subst (IsFirstOwn (own_header j number items) (kept_stamps j)) (sym none) tt
 
+-- a whole slice is one so far
+pub whole-keeps : {job : Job} {functions : Functions} {limits : Limits} {number : ℕ} {items : List (List ℕ)} {all : List CheckpointBytes} → KeepsWhole job functions limits number items all → KeepsSlice job functions number items all
+whole-keeps whole = record { checkpoints = whole.checkpoints; stored_as = whole.stored_as; so_far = whole.whole.so_far }
+
 -- ---- none is kept
 
 pub none-done : (done : List HeldCheckpoint) → length done ≡ 0 → map checkpoint_bytes done ≡ []
 none-done [] none = refl
 none-done (x ∷ done) none = let never : ⊥ = omega (arith, none) in absurd never
 
-no-place : (cs : List Checkpoint) → AreStoredAs cs [] → (slice_state cs).begun ≡ true → ⊥
-no-place [] are begun = true≢false (sym begun)
-no-place (c ∷ _) are begun = are
-
 pub none-whole : (job : Job) (functions : Functions) (limits : Limits) (number : ℕ) (items : List (List ℕ)) (all : List CheckpointBytes) → all ≡ [] → KeepsWhole job functions limits number items all → ⊥
 none-whole job functions limits number items all none whole =
     let keeps = subst (KeepsWhole job functions limits number items) none whole in
-    no-place keeps.checkpoints keeps.stored_as keeps.whole.begun
-
-last-there : (n : ℕ) (xs : List HeldCheckpoint) → length xs ≡ suc n → slice_get xs n ≡ None → ⊥
-last-there n [] number none = omega (arith, number)
-last-there zero (x ∷ xs) number none = let never : ⊥ = cc in never
-last-there (suc n) (x ∷ xs) number none = last-there n xs (omega (arith, number)) none
+    true≢false (sym keeps.whole.begun ∙ ap (λ (cs : List Checkpoint). (slice_state cs).begun) (all_once keeps.checkpoints [] [] keeps.stored_as tt))
 
 pub no-last : (xs : List HeldCheckpoint) → slice_get xs (length xs - 1) ≡ None → xs ≡ []
 no-last [] none = refl
-no-last (x ∷ xs) none = absurd (last-there (length (x ∷ xs) - 1) (x ∷ xs) (omega arith) none)
+no-last (x ∷ xs) none = let last = slice_get-get_or (x ∷ xs) (length (x ∷ xs) - 1) x (omega arith) in let never : ⊥ = cc in absurd never

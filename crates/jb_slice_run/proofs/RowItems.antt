@@ -1,19 +1,13 @@
 -- The faults and results of a range of records are those of its items.
 use Rattle.std.proofs.Common.{◌≡◌, ℕ, zero, suc, ◌+◌, ◌-◌, ◌≤◌, ◌<◌, List, [], ◌∷◌, ◌++◌, length, take, drop, Option, None, Some, refl, ap, sym, ◌∙◌, arith, drop-cons}
 use Rattle.std.proofs.lemmas.List.{get_or-drop, get_or-take}
-use Rattle.std.specs.Prelude.{slice_index_or}
-use Rattle.std.specs.List.{cons_option, filter_map, range_with_len}
+use Rattle.std.specs.{Prelude.slice_index_or, List.cons_option, List.filter_map, List.range_with_len}
 use Rattle.jb_base.specs.declared.class.ClassId.{ClassId}
 use Rattle.jb_ready.specs.declared.notes.Note.{Note}
-use Rattle.jb_records.specs.Artifacts.{record_of, results_between}
-use Rattle.jb_records.specs.Following.{classes_between}
-use Rattle.jb_records.specs.FollowingLaws.{FaultsAreOfItems}
+use Rattle.jb_records.specs.{Artifacts.record_of, Artifacts.results_between, Following.classes_between, FollowingLaws.FaultsAreOfItems, Function.steady, Skips.skip_by, Skips.skips_between}
 use Rattle.jb_records.specs.Function as own
-use Rattle.jb_records.specs.Function.{steady}
-use Rattle.jb_records.specs.Skips.{skip_by, skips_between}
 use Rattle.jb_slices.specs.Function.{Function, all_results, fault_and, fault_classes, faults_from, refusal_of, result_of}
-use Rattle.jb_slices.proofs.Faults.{faults-split}
-use Rattle.jb_slices.proofs.Lists.{drop-drop, drop-front, take-less}
+use Rattle.jb_slices.proofs.{Faults.faults-split, Lists.drop-drop, Lists.drop-front, Lists.take-less}
 use Rattle.jb_slice_run.specs.Rows.{faults_at}
 
 -- ---- one item

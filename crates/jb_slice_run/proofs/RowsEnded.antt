@@ -1,29 +1,18 @@
 -- What rows and progresses tell of where they are, and how they ended.
 use Rattle.std.proofs.Common.{◌≡◌, ℕ, zero, suc, ◌+◌, ◌*◌, ◌/◌, ◌%◌, ◌<◌, ◌≤◌, Bool, true, false, cond, List, [], ◌∷◌, map, Option, None, Some, refl, ap, sym, subst, ◌∙◌, arith, ◌⊎◌, inl, inr}
 use Rattle.std.proofs.Math.Nat.{div-add-mod, mod-lt, mul-le-mul_right, zero-mul}
-use Rattle.std.specs.Prelude.{◌||◌}
-use Rattle.std.specs.List.{AllByRecursion, list_any, range_with_len}
+use Rattle.std.specs.{Prelude.◌||◌, Prelude.◌↔◌, List.AllByRecursion, List.list_any, List.range_with_len}
 use Rattle.jb_base.specs.Rules.{RulesRecord}
 use Rattle.jb_mapper.specs.EvenCover.{bound, even_range, even_ranges}
 use Rattle.jb_ready.specs.declared.notes.Note.{Note}
-use Rattle.jb_rules.specs.Rows.{dropped_row}
-use Rattle.jb_rules.specs.Sound.{IsPlaced}
-use Rattle.jb_rules.specs.States.{has_ended, is_failed}
-use Rattle.jb_rules.specs.declared.row.Row.{Row}
-use Rattle.jb_rules.specs.declared.row.RowState.{RowState}
+use Rattle.jb_rules.specs.{Rows.dropped_row, Sound.IsPlaced, States.has_ended, States.is_failed, declared.row.Row.Row, declared.row.RowState.RowState}
 use Rattle.jb_rules.specs.declared.row.RowState.TheVariants as state
 use Rattle.jb_saved.specs.GoingOn.{restarted}
-use Rattle.jb_records.specs.Following.{FollowsRules, HasFailed, IsStopOf, ranges_of}
-use Rattle.jb_records.specs.FollowingLaws.{StoppedRowsDont}
-use Rattle.jb_records.specs.Function.{steady}
-use Rattle.jb_records.specs.PartitionResults.{AreAtTheirEnds, AreRangesOf, AreRowsInOrder}
-use Rattle.jb_slices.specs.Checkpoint.{Progress}
-use Rattle.jb_slices.specs.Function.{Function}
+use Rattle.jb_records.specs.{Following.FollowsRules, Following.HasFailed, Following.IsStopOf, Following.ranges_of, FollowingLaws.StoppedRowsDont, Function.steady, PartitionResults.AreRangesOf, PartitionResults.AreRowsInOrder}
+use Rattle.jb_slices.specs.{Checkpoint.Progress, Function.Function}
 use Rattle.jb_slices.specs.Partitions as partitions
-use Rattle.jb_slices.specs.Partitions.{AreFinished, HaveEnded}
 use Rattle.jb_slice_run.specs.RowLaws.{EndsAreOfRows, EvenRowsAreInOrder, IdleRowsArePlaced, RestartedRowsArePlaced, StampsAreOf, StopsAreNamed}
-use Rattle.jb_slice_run.specs.Rows.{ArePlaced, IsStopNamed, rows_in}
-use Rattle.jb_slice_run.specs.Step.{StepsDivideSlices}
+use Rattle.jb_slice_run.specs.{Rows.ArePlaced, Rows.IsStopNamed, Rows.rows_in, Step.StepsDivideSlices}
 
 -- ---- STOPS
 
@@ -34,9 +23,8 @@ stop-named law f rules records row (Some note) follows of = λ failed. (note, re
 
 pub stops-named : StoppedRowsDont → StopsAreNamed
 stops-named law f rules records [] [] follow are = tt
-stops-named law f rules records [] (stop ∷ stops) follow are = absurd are
-stops-named law f rules records (row ∷ rows) [] follow are = absurd are
 stops-named law f rules records (row ∷ rows) (stop ∷ stops) follow are = (stop-named law f rules records row stop follow.0 are.0, stops-named law f rules records rows stops follow.1 are.1)
+stops-named law f rules records _ _ follow are = absurd are
 
 -- ---- EVEN RANGES
 
@@ -99,24 +87,9 @@ restarted-placed held = (before held.rows, again held.rows)
 
 -- ---- ENDS
 
-finished-rows : (ps : List Progress) → AreFinished ps → AreAtTheirEnds (rows_in ps)
-finished-rows [] are = tt
-finished-rows (p ∷ ps) are = (are.0, finished-rows ps are.1)
-
-rows-finished : (ps : List Progress) → AreAtTheirEnds (rows_in ps) → AreFinished ps
-rows-finished [] are = tt
-rows-finished (p ∷ ps) are = (are.0, rows-finished ps are.1)
-
-abbrev RowsEnded : List Row → Type 0
-RowsEnded rows = AllByRecursion (λ (row : Row). has_ended row.state ≡ true) rows
-
-ended-rows : (ps : List Progress) → HaveEnded ps → RowsEnded (rows_in ps)
-ended-rows [] are = tt
-ended-rows (p ∷ ps) are = (are.0, ended-rows ps are.1)
-
-rows-ended : (ps : List Progress) → RowsEnded (rows_in ps) → HaveEnded ps
-rows-ended [] are = tt
-rows-ended (p ∷ ps) are = (are.0, rows-ended ps are.1)
+all-rows : (P : Row → Type 0) (ps : List Progress) → AllByRecursion (λ (p : Progress). P p.row) ps ↔ AllByRecursion P (rows_in ps)
+all-rows P [] = ((λ all. tt), (λ all. tt))
+all-rows P (p ∷ ps) = let more = all-rows P ps in ((λ all. (all.0, more.0 all.1)), (λ all. (all.0, more.1 all.1)))
 
 or-first : (a b : Bool) → a ≡ true → a || b ≡ true
 or-first true b e = refl
@@ -153,7 +126,7 @@ rows-failed (p ∷ ps) failed =
     ]
 
 pub ends-of : EndsAreOfRows
-ends-of ps = ((finished-rows ps, rows-finished ps), (ended-rows ps, rows-ended ps), (failed-rows ps, rows-failed ps))
+ends-of ps = (all-rows (λ (row : Row). row.state ≡ state.Finished) ps, all-rows (λ (row : Row). has_ended row.state ≡ true) ps, (failed-rows ps, rows-failed ps))
 
 -- ---- STAMPS
 

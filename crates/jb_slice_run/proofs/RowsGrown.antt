@@ -1,31 +1,18 @@
 -- Progresses that grow, as intervals.
 use Rattle.std.proofs.Common.{◌≡◌, ℕ, suc, ◌++◌, true, List, [], ◌∷◌, length, drop, Option, option_map, refl, ap, sym, subst, ◌∙◌, arith}
 use Rattle.std.proofs.lemmas.List.{length-map}
-use Rattle.jb_base.specs.Pairwise.{Pairwise}
-use Rattle.jb_base.specs.Rules.{RulesRecord}
+use Rattle.jb_base.specs.{Pairwise.Pairwise, Rules.RulesRecord}
 use Rattle.jb_mapper.specs.EvenCover.{even_ranges, ith_range}
 use Rattle.jb_ready.specs.declared.notes.Note.{Note}
 use Rattle.jb_rules.specs.declared.row.Row.{Row}
-use Rattle.jb_records.specs.Following.{FollowRules, ranges_of}
-use Rattle.jb_records.specs.FollowingLaws.{FaultsAreOfItems}
-use Rattle.jb_records.specs.Function.{steady}
-use Rattle.jb_records.specs.PartitionResults.{AreRowsInOrder, IsPartitionResult, IsSoFar}
-use Rattle.jb_records.specs.Skips.{skips_between}
+use Rattle.jb_records.specs.{Following.FollowRules, Following.ranges_of, FollowingLaws.FaultsAreOfItems, Function.steady, PartitionResults.AreRowsInOrder, PartitionResults.IsPartitionResult, PartitionResults.IsSoFar, Skips.skips_between}
 use Rattle.jb_records.specs.Intervals as stretches
-use Rattle.jb_slices.specs.Checkpoint.{Progress}
-use Rattle.jb_slices.specs.Function.{Function}
 use Rattle.jb_slices.specs.Job.{AreRaised, Job, Limits, first_of, rules_of}
+use Rattle.jb_slices.specs.{Checkpoint.Progress, Function.Function, Partitions.ArePartitionsSoFar, Partitions.grown, Slice.Functions, Slice.IsInterval, Slice.SliceState}
 use Rattle.jb_slices.specs.Partitions as partitions
-use Rattle.jb_slices.specs.Partitions.{ArePartitionsSoFar, grown}
-use Rattle.jb_slices.specs.Slice.{Functions, IsInterval, SliceState}
-use Rattle.jb_slice_run.specs.RowLaws.{FirstIntervalsFollow, GrownIsProgress, LaterIntervalsFollow, ProgressesHaveRows}
 use Rattle.jb_slice_run.specs.Rows.{ArePlaced, AreStopsNamed, HaveRisen, IsStopNamed, begins_of, fault_at, faults_at, places_of, progresses_of, progresses_since, results_in, rows_in}
-use Rattle.jb_slice_run.proofs.RowItems.{skips-on}
-use Rattle.jb_slice_run.proofs.RowsEnded.{even-order}
-use Rattle.jb_slice_run.proofs.RowsSoFar.{first-part, other-parts, rows-so-far, skips-of}
-
-none-longer : (n : ℕ) → 0 ≡ suc n → ⊥
-none-longer n e = omega (arith, e)
+use Rattle.jb_slice_run.specs.RowLaws.{FirstIntervalsFollow, GrownIsProgress, LaterIntervalsFollow, ProgressesHaveRows}
+use Rattle.jb_slice_run.proofs.{RowItems.skips-on, RowsEnded.even-order, RowsSoFar.first-part, RowsSoFar.other-parts, RowsSoFar.rows-so-far, RowsSoFar.skips-of}
 
 one-less : (m n : ℕ) → suc m ≡ suc n → m ≡ n
 one-less m n e = omega (arith, e)
@@ -40,14 +27,10 @@ as-many R (x ∷ xs) (y ∷ ys) are = ap suc (as-many R xs ys are.1)
 
 pub have-rows : ProgressesHaveRows
 have-rows f first records [] [] [] stops fs ss ts = (refl, refl)
-have-rows f first records [] [] (share ∷ partition_results) stops fs ss ts = absurd (none-longer (length partition_results) (sym ss))
-have-rows f first records [] (row ∷ rows) partition_results stops fs ss ts = absurd (none-longer (length rows) fs)
-have-rows f first records (from ∷ others) [] partition_results stops fs ss ts = absurd (none-longer (length others) (sym fs))
-have-rows f first records (from ∷ others) (row ∷ rows) [] stops fs ss ts = absurd (none-longer (length rows) ss)
-have-rows f first records (from ∷ others) (row ∷ rows) (share ∷ partition_results) [] fs ss ts = absurd (none-longer (length rows) ts)
 have-rows f first records (from ∷ others) (row ∷ rows) (share ∷ partition_results) (stop ∷ stops) fs ss ts =
     let later = have-rows f first records others rows partition_results stops (one-less (length others) (length rows) fs) (one-less (length partition_results) (length rows) ss) (one-less (length stops) (length rows) ts) in
     (ap (λ rs. row ∷ rs) later.0, ap (λ xs. share ∷ xs) later.1)
+have-rows f first records _ _ _ _ fs ss ts = absurd (omega (arith, fs, ss, ts))
 
 pub ranges-in : (ps : List Progress) → partitions.ranges_of ps ≡ ranges_of (rows_in ps)
 ranges-in [] = refl
@@ -63,8 +46,6 @@ module _ (law : FaultsAreOfItems) (f : Function) (rules : RulesRecord) (first : 
   grown-from from [] [] new_output stops parts order placed ranges risen now ns ts = refl
   grown-from from [] (row ∷ rows) new_output stops parts order placed ranges risen now ns ts = absurd risen
   grown-from from (p ∷ ps) [] new_output stops parts order placed ranges risen now ns ts = absurd risen
-  grown-from from (p ∷ ps) (row ∷ rows) [] stops parts order placed ranges risen now ns ts = absurd (none-longer (length rows) ns)
-  grown-from from (p ∷ ps) (row ∷ rows) (new ∷ new_output) [] parts order placed ranges risen now ns ts = absurd (none-longer (length rows) ts)
   grown-from from (p ∷ ps) (row ∷ rows) (new ∷ new_output) (stop ∷ stops) parts order placed ranges risen now ns ts =
       let is = first-part law f rules first records from p ps parts order placed in
       let lo : row.lo ≡ p.row.lo = ap (λ rs. (ith_range rs 0).lo) ranges in
@@ -79,13 +60,14 @@ module _ (law : FaultsAreOfItems) (f : Function) (rules : RulesRecord) (first : 
       let later = grown-from p.row.hi ps rows new_output stops (other-parts law f rules first records from p ps parts) order.2 placed.1 (ap (drop 1) ranges) risen.1 now.1
       (one-less (length new_output) (length rows) ns) (one-less (length stops) (length rows) ts) in
       λ i. record { row = row; results = p.results ++ new; skips = skips i; stop = option_map (fault_at first) stop } ∷ later i
+  grown-from from (p ∷ ps) (row ∷ rows) _ _ parts order placed ranges risen now ns ts = absurd (omega (arith, ns, ts))
 
 pub grown-is : FaultsAreOfItems → GrownIsProgress
 grown-is law f rules first records ps rows new_output stops parts order placed ranges risen now ns ts = grown-from law f rules first records 0 ps rows new_output stops parts order placed ranges risen now ns ts
 
 -- ---- INTERVALS
 
-follows-so : FaultsAreOfItems → (job : Job) (functions : Functions) (f : Function) (limits : Limits) (number : ℕ) (items : List (List ℕ)) (at : SliceState) (rows : List Row) (partition_results : List (List (List ℕ))) (stops : List (Option Note))
+pub follows-so : FaultsAreOfItems → (job : Job) (functions : Functions) (f : Function) (limits : Limits) (number : ℕ) (items : List (List ℕ)) (at : SliceState) (rows : List Row) (partition_results : List (List (List ℕ))) (stops : List (Option Note))
     (new : List Progress) → grown at.partitions new ≡ progresses_of f (first_of job number) items rows partition_results stops → at.begun ≡ true → functions at.stamp ≡ f → AreRaised at.limits limits
     → ranges_of rows ≡ even_ranges (length items) job.partitions → IsSoFar (steady f) items rows partition_results → FollowRules (steady f) (rules_of job limits) items rows
     → ArePlaced rows → AreStopsNamed f (rules_of job limits) items rows stops

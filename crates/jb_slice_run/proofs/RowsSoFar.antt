@@ -3,22 +3,14 @@ use Rattle.std.proofs.Common.{◌≡◌, ℕ, suc, ◌+◌, ◌-◌, ◌≤◌, 
 use Rattle.std.proofs.lemmas.List.{drop_all, length-drop, length-map, length-take-le}
 use Rattle.jb_base.specs.Rules.{RulesRecord}
 use Rattle.jb_ready.specs.declared.notes.Note.{Note}
-use Rattle.jb_rules.specs.Sound.{IsPlaced}
-use Rattle.jb_rules.specs.declared.row.Row.{Row}
-use Rattle.jb_records.specs.Following.{FollowRules, FollowsRules}
+use Rattle.jb_rules.specs.{Sound.IsPlaced, declared.row.Row.Row}
+use Rattle.jb_records.specs.{Following.FollowRules, Following.FollowsRules, FollowingLaws.FaultsAreOfItems, Function.steady, PartitionResults.AreRowsInOrder, PartitionResults.ArePartitionResults, PartitionResults.IsPartitionResult, Skips.skips_between}
 use Rattle.jb_records.specs.Following as rows
-use Rattle.jb_records.specs.FollowingLaws.{FaultsAreOfItems}
-use Rattle.jb_records.specs.Function.{steady}
-use Rattle.jb_records.specs.PartitionResults.{AreRowsInOrder, ArePartitionResults, IsPartitionResult}
-use Rattle.jb_records.specs.Skips.{skips_between}
-use Rattle.jb_slices.specs.Checkpoint.{Progress}
 use Rattle.jb_slices.specs.Function.{Fault, Function, ItemsPass, Pass, faults_from, refusal_of}
-use Rattle.jb_slices.specs.Partitions.{ArePartitionsSoFar, IsPartitionSoFar, IsStop}
-use Rattle.jb_slices.proofs.Faults.{items-pass-front}
-use Rattle.jb_slices.proofs.Lists.{drop-drop, take-less}
-use Rattle.jb_slices.proofs.Passing.{order}
-use Rattle.jb_slice_run.specs.RowLaws.{RowsAreSoFar, SoFarAreRows}
+use Rattle.jb_slices.specs.{Checkpoint.Progress, Partitions.ArePartitionsSoFar, Partitions.IsPartitionSoFar, Partitions.IsStop}
+use Rattle.jb_slices.proofs.{Faults.items-pass-front, Lists.drop-drop, Lists.take-less, Passing.order}
 use Rattle.jb_slice_run.specs.Rows.{ArePlaced, AreStopsNamed, IsStopNamed, fault_at, faults_at, progress_of, progresses_of, results_in, rows_in}
+use Rattle.jb_slice_run.specs.RowLaws.{RowsAreSoFar, SoFarAreRows}
 use Rattle.jb_slice_run.proofs.RowItems.{classes-own, own-item, results-own, skips-items}
 
 -- the items of a row's range
@@ -79,20 +71,26 @@ module _ (law : FaultsAreOfItems) (f : Function) (rules : RulesRecord) (first : 
 
   -- ---- and back
 
-  part-skips : (p : Progress) → IsPlaced p.row → p.row.hi ≤ length records → IsPartitionSoFar f rules (first + p.row.lo) (own-of records p.row) p
-      → p.skips ≡ faults_at first (skips_between (steady f) records p.row.lo p.row.at)
-  part-skips p placed below part =
-      let from = placed.at_from in
-      let to = placed.at_to in
-      part.skips
+  -- each partition by itself
+  pub record IsPart (p : Progress) : Type 0 where
+    pub placed : IsPlaced p.row
+    pub below : p.row.hi ≤ length records
+    pub part : IsPartitionSoFar f rules (first + p.row.lo) (own-of records p.row) p
+
+  pub skips-of : (p : Progress) → IsPart p → p.skips ≡ faults_at first (skips_between (steady f) records p.row.lo p.row.at)
+  skips-of p is =
+      let from = is.placed.at_from in
+      let to = is.placed.at_to in
+      let below = is.below in
+      is.part.skips
       ∙ ap (faults_from f (first + p.row.lo)) (take-less (p.row.at - p.row.lo) (p.row.hi - p.row.lo) (drop p.row.lo records) (omega (arith, from, to)))
       ∙ sym (skips-items f first records p.row.lo p.row.at from (omega (arith, to, below)))
 
-  part-share : (p : Progress) → IsPlaced p.row → p.row.hi ≤ length records → IsPartitionSoFar f rules (first + p.row.lo) (own-of records p.row) p → IsPartitionResult (steady f) records p.row p.results
-  part-share p placed below part = record {
-    results = part.results ∙ sym (results-own f records p.row.lo p.row.hi p.row.at placed.at_from placed.at_to below);
-    number = sym part.written;
-    whole = part.finished;
+  part-share : (p : Progress) → IsPart p → IsPartitionResult (steady f) records p.row p.results
+  part-share p is = record {
+    results = is.part.results ∙ sym (results-own f records p.row.lo p.row.hi p.row.at is.placed.at_from is.placed.at_to is.below);
+    number = sym is.part.written;
+    whole = is.part.finished;
   }
 
   -- a partition hasn't passed the item by whose fault it fails
@@ -126,18 +124,19 @@ module _ (law : FaultsAreOfItems) (f : Function) (rules : RulesRecord) (first : 
         fails = λ pass. s.fails (subst (Pass rules) (classes-own law f records row.lo row.hi (suc n) (suc s.before) next (omega (arith, last)) below) pass);
       }
 
-  part-follows : (p : Progress) → IsPlaced p.row → p.row.hi ≤ length records → IsPartitionSoFar f rules (first + p.row.lo) (own-of records p.row) p → FollowsRules (steady f) rules records p.row
-  part-follows p placed below part =
-      let from = placed.at_from in
+  part-follows : (p : Progress) → IsPart p → FollowsRules (steady f) rules records p.row
+  part-follows p is =
+      let part = is.part in
+      let from = is.placed.at_from in
       let at-is : p.row.at ≡ p.row.lo + (p.row.at - p.row.lo) = omega (arith, from) in
-      let count = ap length (part-skips p placed below part) ∙ length-map (skips_between (steady f) records p.row.lo p.row.at) (fault_at first) in
+      let count = ap length (skips-of p is) ∙ length-map (skips_between (steady f) records p.row.lo p.row.at) (fault_at first) in
       record {
         counted = part.counted ∙ count;
         skipped = part.skipped ∙ count;
-        passed = subst (Pass rules) (sym (classes-own law f records p.row.lo p.row.hi p.row.at (p.row.at - p.row.lo) at-is placed.at_to below)) part.passed;
+        passed = subst (Pass rules) (sym (classes-own law f records p.row.lo p.row.hi p.row.at (p.row.at - p.row.lo) at-is is.placed.at_to is.below)) part.passed;
         failed = λ failed. (
             let stop = part.failed failed in
-            (record { number = p.row.lo + stop.2.before; class = stop.0.class }, stop-back p stop.0 placed below part.passed stop.2)
+            (record { number = p.row.lo + stop.2.before; class = stop.0.class }, stop-back p stop.0 is.placed is.below part.passed stop.2)
             );
       }
 
@@ -164,12 +163,6 @@ module _ (law : FaultsAreOfItems) (f : Function) (rules : RulesRecord) (first : 
             (rows-parts row.hi rs partition_results stops order.2 are.1 follow.1 placed.1 named.1),
       )
 
-  -- each partition by itself
-  pub record IsPart (p : Progress) : Type 0 where
-    pub placed : IsPlaced p.row
-    pub below : p.row.hi ≤ length records
-    pub part : IsPartitionSoFar f rules (first + p.row.lo) (own-of records p.row) p
-
   pub first-part : (from : ℕ) (p : Progress) (ps : List Progress) → ArePartitionsSoFar f rules first from (drop from records) (p ∷ ps) → AreRowsInOrder from (length records) (rows_in (p ∷ ps))
       → ArePlaced (rows_in (p ∷ ps)) → IsPart p
   first-part from p ps parts order placed = record {
@@ -185,28 +178,18 @@ module _ (law : FaultsAreOfItems) (f : Function) (rules : RulesRecord) (first : 
       let on : from + (p.row.hi - from) ≡ p.row.hi = omega (arith, here) in
       subst (λ items. ArePartitionsSoFar f rules first p.row.hi items ps) (drop-drop from (p.row.hi - from) p.row.hi records on) parts.3
 
-  pub skips-of : (p : Progress) → IsPart p → p.skips ≡ faults_at first (skips_between (steady f) records p.row.lo p.row.at)
-  skips-of p is = part-skips p is.placed is.below is.part
-
-  parts-partition_results : (from : ℕ) (ps : List Progress) → ArePartitionsSoFar f rules first from (drop from records) ps → AreRowsInOrder from (length records) (rows_in ps) → ArePlaced (rows_in ps)
-      → ArePartitionResults (steady f) records (rows_in ps) (results_in ps)
-  parts-partition_results from [] parts order placed = tt
-  parts-partition_results from (p ∷ ps) parts order placed =
+  parts-rows : (from : ℕ) (ps : List Progress) → ArePartitionsSoFar f rules first from (drop from records) ps → AreRowsInOrder from (length records) (rows_in ps) → ArePlaced (rows_in ps)
+      → ArePartitionResults (steady f) records (rows_in ps) (results_in ps) × FollowRules (steady f) rules records (rows_in ps)
+  parts-rows from [] parts order placed = (tt, tt)
+  parts-rows from (p ∷ ps) parts order placed =
       let is = first-part from p ps parts order placed in
-      (part-share p is.placed is.below is.part, parts-partition_results p.row.hi ps (other-parts from p ps parts) order.2 placed.1)
-
-  parts-follow : (from : ℕ) (ps : List Progress) → ArePartitionsSoFar f rules first from (drop from records) ps → AreRowsInOrder from (length records) (rows_in ps) → ArePlaced (rows_in ps)
-      → FollowRules (steady f) rules records (rows_in ps)
-  parts-follow from [] parts order placed = tt
-  parts-follow from (p ∷ ps) parts order placed =
-      let is = first-part from p ps parts order placed in
-      (part-follows p is.placed is.below is.part, parts-follow p.row.hi ps (other-parts from p ps parts) order.2 placed.1)
+      let more = parts-rows p.row.hi ps (other-parts from p ps parts) order.2 placed.1 in
+      ((part-share p is, more.0), (part-follows p is, more.1))
 
 pub rows-so-far : FaultsAreOfItems → RowsAreSoFar
 rows-so-far law f rules first records rs partition_results stops so-far follow placed named = rows-parts law f rules first records 0 rs partition_results stops so-far.order so-far.each follow placed named
 
 pub so-far-rows : FaultsAreOfItems → SoFarAreRows
-so-far-rows law f rules first records ps parts order placed = (
-  record { order = order; each = parts-partition_results law f rules first records 0 ps parts order placed },
-  parts-follow law f rules first records 0 ps parts order placed,
-)
+so-far-rows law f rules first records ps parts order placed =
+    let both = parts-rows law f rules first records 0 ps parts order placed in
+    (record { order = order; each = both.0 }, both.1)

@@ -1,10 +1,7 @@
 -- The classes of a set, written one after the other.
 use Rattle.std.proofs.Common.{ℕ, zero, suc, ◌≡◌, ◌+◌, ◌/◌, ◌%◌, ◌^◌, ◌==◌, Bool, cond, List, [], ◌∷◌, ◌++◌, map, decimal, refl, sym, ap, ◌∙◌, append_assoc, arith}
+use Rattle.std.proofs.{lemmas.Bool.ne_eqb, lemmas.List.append-nil, lemmas.List.map-append, lemmas.List.Elements.filter-append, lemmas.List.Concat.flat_map_single}
 use Rattle.std.specs.List.{filter, range_with_len}
-use Rattle.std.proofs.lemmas.Bool.{ne_eqb}
-use Rattle.std.proofs.lemmas.List.{append-nil, map-append}
-use Rattle.std.proofs.lemmas.List.Elements.{filter-append}
-use Rattle.std.proofs.lemmas.List.Concat.{flat_map_single}
 use Rattle.json.specs.Token.{Token, number, begin_array, end_array}
 use Rattle.jb_job.specs.JobTree.{number_tree}
 use Rattle.jb_saved.specs.SavedTree.{tokens_of}

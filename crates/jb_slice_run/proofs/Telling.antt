@@ -3,19 +3,13 @@ use Rattle.std.proofs.Common.{ℕ, ◌≡◌, List, [], ◌∷◌, ◌++◌, len
 use Rattle.std.proofs.lemmas.List.{length-map}
 use Rattle.jb_base.proofs.Pairwise.{pairwise-push}
 use Rattle.jb_slice_file.specs.CheckpointBytes.{CheckpointBytes}
-use Rattle.jb_slice_run.specs.Coding.{IsCodingOf, coded_number}
-use Rattle.jb_rules.specs.declared.row.Row.{Row}
-use Rattle.jb_saved.specs.SavedRows.{SavedRows}
-use Rattle.jb_saved.specs.declared.place.SavedPlace.{SavedPlace}
-use Rattle.jb_slices.specs.Checkpoint.{Begins, Checkpoint, GoesOn, Header, Interval, Progress}
-use Rattle.jb_slices.specs.Job.{Limits}
-use Rattle.jb_slices.specs.Slice.{IsSliceSoFar}
-use Rattle.jb_slices.specs.SliceLaws.{FrontsAreSoFar, OneMoreFollows}
 use Rattle.jb_slice_run.specs.SliceBytes.{AreStoredAs, IsHeaderStored, IsIntervalStored, IsStoredAs, lists_of}
-use Rattle.jb_slice_run.specs.Laws.{EachIsStoredAsOne, FrontsAreStored, StoredAsOne, OneMoreIsStored}
-use Rattle.jb_slice_run.specs.Strings.{NewOutput, all_new_output, header_lists, interval_lists}
-use Rattle.jb_slice_run.proofs.Codings.{one_to_one}
+use Rattle.jb_slice_run.specs.{Coding.IsCodingOf, Coding.coded_number, Laws.EachIsStoredAsOne, Laws.FrontsAreStored, Laws.StoredAsOne, Laws.OneMoreIsStored, Strings.all_new_output, Strings.header_lists, Strings.interval_lists, Strings.new_output_of}
+use Rattle.jb_saved.specs.{SavedRows.SavedRows, declared.place.SavedPlace.SavedPlace}
+use Rattle.jb_slices.specs.Checkpoint.{Begins, Checkpoint, GoesOn, Header, Interval, Progress}
+use Rattle.jb_slices.specs.{Slice.IsSliceSoFar, SliceLaws.FrontsAreSoFar, SliceLaws.OneMoreFollows}
 use Rattle.jb_slice_run.proofs.Once.{head_of, header_once, limits_once, new_output_once, tail_of}
+use Rattle.jb_slice_run.proofs.Codings.{one_to_one}
 
 ok_once : (x y : SavedRows) → ◌≡◌ {A = Result SavedRows SavedPlace} (Ok x) (Ok y) → x ≡ y
 ok_once x y e = cc
@@ -23,14 +17,12 @@ ok_once x y e = cc
 -- partitions are their rows and their news
 progress_once : (ps qs : List Progress) → map (λ (p : Progress). p.row) ps ≡ map (λ (p : Progress). p.row) qs → all_new_output ps ≡ all_new_output qs → ps ≡ qs
 progress_once [] [] rows new_output = refl
-progress_once [] (q ∷ qs) rows new_output = let none : ⊥ = cc in absurd none
-progress_once (p ∷ ps) [] rows new_output = let none : ⊥ = cc in absurd none
 progress_once (p ∷ ps) (q ∷ qs) rows new_output =
-    let new_output-first = head_of _ _ _ _ new_output in
-    let one : p ≡ q =
-    ap (λ (r : Row). record p { row = r }) (head_of _ _ _ _ rows)
-    ∙ ap (λ (n : NewOutput). record { row = q.row; results = n.results; skips = n.skips; stop = n.stop }) new_output-first in
+    let row : p.row ≡ q.row = head_of _ _ _ _ rows in
+    let new : new_output_of p ≡ new_output_of q = head_of _ _ _ _ new_output in
+    let one : p ≡ q = λ i. record { row = row i; results = (new i).results; skips = (new i).skips; stop = (new i).stop } in
     ap₂ ◌∷◌ one (progress_once ps qs (tail_of _ _ _ _ rows) (tail_of _ _ _ _ new_output))
+progress_once _ _ rows new_output = let none : ⊥ = cc in absurd none
 
 headers : (h k : Header) (kept : CheckpointBytes) → IsHeaderStored h kept → IsHeaderStored k kept → h ≡ k
 headers h k kept a b = header_once h k a.small b.small (one_to_one kept.results 10 (header_lists h) (header_lists k) a.lists b.lists)
@@ -51,7 +43,7 @@ module _ (i j : Interval) (kept : CheckpointBytes) (a : IsIntervalStored i kept)
       let limits : i.limits ≡ j.limits = limits_once i.limits j.limits a.small b.small (head_of _ _ _ _ lists) in
       let new_output : all_new_output i.partitions ≡ all_new_output j.partitions = new_output_once (all_new_output i.partitions) (all_new_output j.partitions) a.new_output_small b.new_output_small (tail_of _ _ _ _ lists) in
       let partitions : i.partitions ≡ j.partitions = progress_once i.partitions j.partitions rows new_output in
-      ap (λ (l : Limits). record i { limits = l }) limits ∙ ap (λ (ps : List Progress). record j { partitions = ps }) partitions
+      λ t. record { limits = limits t; partitions = partitions t }
 
 -- the first list of a header has one string, and that of an interval three
 apart : (h : Header) (i : Interval) (kept : CheckpointBytes) → IsHeaderStored h kept → IsIntervalStored i kept → ⊥
@@ -66,12 +58,10 @@ each_once (GoesOn i) (GoesOn j) kept a b = ap GoesOn (intervals i j kept a b)
 
 pub all_once : StoredAsOne
 all_once [] [] [] a b = refl
-all_once [] [] (k ∷ ks) a b = absurd a
-all_once [] (d ∷ ds) [] a b = absurd b
-all_once [] (d ∷ ds) (k ∷ ks) a b = absurd a
-all_once (c ∷ cs) ds [] a b = absurd a
-all_once (c ∷ cs) [] (k ∷ ks) a b = absurd b
 all_once (c ∷ cs) (d ∷ ds) (k ∷ ks) a b = ap₂ ◌∷◌ (each_once c d k a.0 b.0) (all_once cs ds ks a.1 b.1)
+all_once (c ∷ cs) [] (k ∷ ks) a b = absurd b
+all_once [] (d ∷ ds) [] a b = absurd b
+all_once _ _ _ a b = absurd a
 
 -- ---- a front
 

@@ -1,5 +1,3 @@
-pub mod Ending
-pub mod Filing
 pub mod Resting
 pub mod Causing
 pub mod Telling

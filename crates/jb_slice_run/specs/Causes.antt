@@ -1,13 +1,17 @@
--- Why a slice isn't resumed, and why an interval has no checkpoint.
-use Rattle.std.specs.Prelude.{ℕ, ◌≡◌, ◌≤◌, ◌⊎◌, ◌+◌, ◌^◌, List, [], ◌∷◌, ◌++◌, length, None, Some, ⊤}
+-- Why a slice has no end, isn't resumed, or has no next checkpoint.
+use Rattle.std.specs.Prelude.{ℕ, ◌≡◌, ◌≤◌, ◌<◌, ◌⊎◌, ◌+◌, ◌-◌, ◌^◌, false, List, [], ◌∷◌, ◌++◌, length, None, Some, ⊤}
+use Rattle.sqlite_disk.specs.Disk.{MoreFaults}
+use Rattle.sqlite.specs.State.{State}
 use Rattle.jb_records.specs.declared.error.RecordsStepError.{RecordsStepError}
 use Rattle.jb_records.specs.declared.error.RecordsStepError.TheVariants as fault
 use Rattle.jb_records.specs.declared.step.RecordsStep.{RecordsStep}
-use Rattle.jb_records.specs.Causes.{AreOtherPartitionResults, IsCauseOf}
+use Rattle.jb_records.specs.Causes.{Call, Explains as ExplainsStep, OfEach, RunInterval}
 use Rattle.jb_records.specs.Function.{steady}
-use Rattle.jb_records.specs.Intervals.{IsBrokenOff}
 use Rattle.jb_slice_run.specs.Coding.{AreCodable}
 use Rattle.jb_slice_file.specs.CheckpointBytes.{CheckpointBytes}
+use Rattle.jb_slice_file.specs.Rows.{IsTooLong}
+use Rattle.jb_slice_file.specs.declared.error.StoreError.{StoreError}
+use Rattle.jb_slice_file.specs.declared.error.StoreError.TheVariants as store
 use Rattle.jb_slices.specs.Checkpoint.{Begins, Checkpoint, GoesOn, Header, Interval}
 use Rattle.jb_slices.specs.Function.{Function}
 use Rattle.jb_slices.specs.Job.{AreRaised, Job, Limits, first_of}
@@ -19,11 +23,12 @@ use Rattle.jb_slice_run.specs.Refusals.{IsHeaderCause, IsOwn}
 use Rattle.jb_slice_run.specs.Step.{IsStepOfSlice}
 use Rattle.jb_slice_run.specs.Strings.{all_new_output, header_lists, interval_lists}
 use Rattle.jb_slice_run.specs.Work.{AreItemsShort}
+use Rattle.jb_slice_run.specs.durable.Work.{SliceInput, SoFar}
 use Rattle.jb_slice_run.specs.declared.error.SliceError.{SliceError}
-use Rattle.jb_slice_run.specs.declared.error.SliceError.TheVariants.{Damaged, LoweredLimit, Memory, TooLong}
+use Rattle.jb_slice_run.specs.declared.error.SliceError.TheVariants.{Store, Step, OtherJob, OtherSlice, OtherItems, OtherStamp, LoweredLimit, Damaged, TooLong, NoNumbers, TooMany, Stopped, Memory}
 use Rattle.jb_slice_run.specs.declared.job.SliceJob.{SliceJob}
-use Rattle.jb_slice_run.specs.declared.run_error.SliceRunError.{SliceRunError}
-use Rattle.jb_slice_run.specs.declared.run_error.SliceRunError.TheVariants.{Checkpoints, Step, TooMany}
+use Rattle.jb_slice_run.specs.declared.durable.loop_end.LoopEnd.{LoopEnd}
+use Rattle.jb_slice_run.specs.declared.durable.loop_end.LoopEnd.TheVariants.{Intervals}
 
 -- ---- AN INTERVAL
 
@@ -39,21 +44,9 @@ pub record HasNoBytes (job : Job) (functions : Functions) (number : ℕ) (items 
 abbrev pub AreTooMany : Job → (number items : ℕ) → Type 0
 AreTooMany job number items = 2 ^ 64 ≤ first_of job number + items
 
--- WHY AN INTERVAL HAS NO CHECKPOINT
-abbrev pub IsIntervalCause : Job → Functions → (number : ℕ) → (items : List (List ℕ)) → List CheckpointBytes → SliceRunError → Type 0
-IsIntervalCause job functions number items all (Checkpoints TooLong) = HasNoBytes job functions number items all
-IsIntervalCause job functions number items all (Checkpoints Memory) = ⊤
-IsIntervalCause job functions number items all (Checkpoints e) = ⊥
-IsIntervalCause job functions number items all (Step why) = IsBrokenOff why
-IsIntervalCause job functions number items all TooMany = AreTooMany job number (length items)
-
--- an error that isn't a refusal of the stored checkpoints
-abbrev pub IsIntervalError : SliceRunError → Type 0
-IsIntervalError (Checkpoints TooLong) = ⊤
-IsIntervalError (Checkpoints Memory) = ⊤
-IsIntervalError (Checkpoints e) = ⊥
-IsIntervalError (Step why) = ⊤
-IsIntervalError TooMany = ⊤
+-- so has one after some checkpoints of the slice so far
+abbrev pub HasNoBytesSoFar : SliceInput → Type 0
+HasNoBytesSoFar w = (all : List CheckpointBytes) × SoFar w all × HasNoBytes w.job w.functions w.number w.items all
 
 -- ---- A SLICE THAT ISN'T RESUMED
 
@@ -79,30 +72,110 @@ AreDamaged job number items all = (functions : Functions) → KeepsSlice job fun
 abbrev pub IsHeaderLong : (own : Header) → (items : List (List ℕ)) → Type 0
 IsHeaderLong own items = (AreItemsShort items → ⊥) ⊎ (AreCodable (header_lists own) → ⊥)
 
--- `Results`: the number of some partition's results isn't what its row of the last text says, or there are results of other partitions. Any other
--- error has the step's cause for this text.
-abbrev pub IsCauseAfter : Function → RecordsStep → (items : List (List ℕ)) → (text : List ℕ) → RecordsStepError → Type 0
-IsCauseAfter f step items text fault.Results = (partition_results : List (List (List ℕ))) × AreOtherPartitionResults text partition_results
-IsCauseAfter f step items text e = IsCauseOf (steady f) step items (Some (text, [])) e
-
 -- why the step can't start: after the last interval if one is stored, else at the first items
 pub record IsUnbegunAfter (f : Function) (step : RecordsStep) (items : List (List ℕ)) (all : List CheckpointBytes) (why : RecordsStepError) : Type 0 where
   pub before : List CheckpointBytes
   pub last : CheckpointBytes
   pub last_is : all ≡ before ++ last ∷ []
-  pub cause : IsCauseAfter f step items last.saved why
+  pub partition_results : List (List (List ℕ))
+  pub cause : ExplainsStep (Call (steady f) step items (Some (last.saved, OfEach partition_results))) why
 
 pub record IsUnbegun (job : SliceJob) (f : Function) (items : List (List ℕ)) (all : List CheckpointBytes) (why : RecordsStepError) : Type 0 where
   pub step : RecordsStep
   pub step_is : IsStepOfSlice (job_in job) (limits_in job.limits) job.threads step
-  pub cause : IsCauseOf (steady f) step items None why ⊎ IsUnbegunAfter f step items all why
+  pub cause : ExplainsStep (Call (steady f) step items None) why ⊎ IsUnbegunAfter f step items all why
 
--- WHY A SLICE ISN'T RESUMED
-abbrev pub IsResumeCause : SliceJob → Function → (number : ℕ) → (items : List (List ℕ)) → List CheckpointBytes → SliceRunError → Type 0
-IsResumeCause job f number items all (Checkpoints Damaged) = AreDamaged (job_in job) number items all
-IsResumeCause job f number items all (Checkpoints LoweredLimit) = HasLower (job_in job) number items (limits_in job.limits) all
-IsResumeCause job f number items all (Checkpoints TooLong) = IsHeaderLong (own_header job number items) items
-IsResumeCause job f number items all (Checkpoints Memory) = ⊤
-IsResumeCause job f number items all (Checkpoints e) = IsRefusedBy (own_header job number items) (kept_stamps job) all e
-IsResumeCause job f number items all (Step why) = IsUnbegun job f items all why
-IsResumeCause job f number items all TooMany = ⊥
+-- ---- THE FILE
+
+-- Why the file doesn't list its checkpoints, or doesn't take one more. A call of the disk has failed since, the connection was shut before, or
+-- the checkpoint is too long. Out of memory and other reasons of SQLite may come too. A file that shows its checkpoints isn't refused as one of
+-- another kind.
+abbrev pub IsFileCause : State → State → (is_too_long : Type 0) → StoreError → Type 0
+IsFileCause old new is_too_long store.Damaged = MoreFaults old.faults new.faults
+IsFileCause old new is_too_long store.Full = MoreFaults old.faults new.faults
+IsFileCause old new is_too_long store.Disk = MoreFaults old.faults new.faults
+IsFileCause old new is_too_long store.Shut = (old.is_open ≡ false) ⊎ MoreFaults old.faults new.faults
+IsFileCause old new is_too_long store.TooLong = is_too_long
+IsFileCause old new is_too_long store.Memory = ⊤
+IsFileCause old new is_too_long (store.Sql e) = ⊤
+IsFileCause old new is_too_long _ = ⊥
+
+-- a checkpoint of the slice so far is longer than a row of the table may be
+pub record HasALongOne (w : SliceInput) : Type 0 where
+  pub before : List CheckpointBytes
+  pub next : CheckpointBytes
+  pub so_far : SoFar w (before ++ next ∷ [])
+  pub long : IsTooLong next
+
+-- the slice so far has used each number that a checkpoint may have
+pub record HasEachNumber (w : SliceInput) : Type 0 where
+  pub all : List CheckpointBytes
+  pub so_far : SoFar w all
+  pub full : 2 ^ 32 - 1 ≤ length all
+
+-- ---- ALL OF THEM
+
+-- where the stored checkpoints come from: they were given, or listed from a file, which was so before and after the call
+pub data Source : Type 1 where
+  InMemory : Source
+  OfFile : (old new : State) → Source
+
+-- WHAT A CALL DOES, with what it was given
+pub data Phase : Type 1 where
+  -- it resumes the slice with this number and these items after these checkpoints
+  Resuming : SliceJob → Function → (number : ℕ) → (items : List (List ℕ)) → Source → List CheckpointBytes → Phase
+  -- it adds one interval: to a run of which nothing is known, or after these checkpoints of the slice so far
+  AnyInterval : Phase
+  NextInterval : Job → Functions → (number : ℕ) → (items : List (List ℕ)) → List CheckpointBytes → Phase
+  -- it adds intervals to the slice so far, and appends each to the file
+  Appending : SliceInput → (old new : State) → Phase
+  -- it collects how the slice ended, after its intervals ended in this way
+  Ending : LoopEnd → Phase
+  -- it does all this for a slice so far
+  RunningSlice : SliceJob → SliceInput → (old new : State) → List CheckpointBytes → Phase
+
+-- WHY A CALL HAS NO ANSWER, error by error. A call has no other errors than those that are listed for what it does.
+abbrev pub Explains : Phase → SliceError → Type 0
+-- any call may be out of memory
+Explains phase Memory = ⊤
+-- the file doesn't list its checkpoints, or doesn't take one more
+Explains (Resuming job f number items (OfFile old new) all) (Store e) = IsFileCause old new ⊥ e
+Explains (Appending w old new) (Store e) = IsFileCause old new (HasALongOne w) e
+Explains (RunningSlice job w old new all) (Store e) = IsFileCause old new (HasALongOne w) e
+-- the step can't start, or broke off
+Explains (Resuming job f number items source all) (Step why) = IsUnbegun job f items all why
+Explains AnyInterval (Step why) = ⊤
+Explains (NextInterval job functions number items all) (Step why) = ExplainsStep RunInterval why
+Explains (Appending w old new) (Step why) = ExplainsStep RunInterval why
+Explains (RunningSlice job w old new all) (Step why) = IsUnbegun job w.f w.items all why ⊎ ExplainsStep RunInterval why
+-- the stored header isn't our own; that of a slice so far can have another stamp, and no other difference
+Explains (Resuming job f number items source all) (OtherJob part) = IsRefusedBy (own_header job number items) (kept_stamps job) all (OtherJob part)
+Explains (Resuming job f number items source all) OtherSlice = IsRefusedBy (own_header job number items) (kept_stamps job) all OtherSlice
+Explains (Resuming job f number items source all) OtherItems = IsRefusedBy (own_header job number items) (kept_stamps job) all OtherItems
+Explains (Resuming job f number items source all) OtherStamp = IsRefusedBy (own_header job number items) (kept_stamps job) all OtherStamp
+Explains (RunningSlice job w old new all) OtherStamp = IsRefusedBy (own_header job w.number w.items) (kept_stamps job) all OtherStamp
+-- a limit is lower than the stored one
+Explains (Resuming job f number items source all) LoweredLimit = HasLower (job_in job) number items (limits_in job.limits) all
+Explains (RunningSlice job w old new all) LoweredLimit = HasLower (job_in job) w.number w.items (limits_in job.limits) all
+-- what is stored is no slice of this job
+Explains (Resuming job f number items source all) Damaged = AreDamaged (job_in job) number items all
+-- a checkpoint has no bytes: the slice's own header, or an interval
+Explains (Resuming job f number items source all) TooLong = IsHeaderLong (own_header job number items) items
+Explains AnyInterval TooLong = ⊤
+Explains (NextInterval job functions number items all) TooLong = HasNoBytes job functions number items all
+Explains (Appending w old new) TooLong = HasNoBytesSoFar w
+Explains (RunningSlice job w old new all) TooLong = IsHeaderLong (own_header job w.number w.items) w.items ⊎ HasNoBytesSoFar w
+-- there are no numbers for its items
+Explains AnyInterval NoNumbers = ⊤
+Explains (NextInterval job functions number items all) NoNumbers = AreTooMany job number (length items)
+Explains (Appending w old new) NoNumbers = AreTooMany w.job w.number (length w.items)
+Explains (RunningSlice job w old new all) NoNumbers = AreTooMany w.job w.number (length w.items)
+-- there are no numbers for its checkpoints
+Explains (Resuming job f number items (OfFile old new) all) TooMany = 2 ^ 32 - 1 < length all
+Explains (Appending w old new) TooMany = HasEachNumber w
+Explains (Ending loop_end) TooMany = loop_end ≡ Intervals
+Explains (RunningSlice job w old new all) TooMany = HasEachNumber w
+-- the listener stopped it: no contract says what a listener answers
+Explains (Ending loop_end) Stopped = ⊤
+Explains (RunningSlice job w old new all) Stopped = ⊤
+Explains phase e = ⊥

@@ -1,5 +1,7 @@
 -- Why a slice's bytes are refused.
 use Rattle.std.specs.Prelude.{ℕ, ◌≡◌, ◌≢◌, ◌⊎◌, List, ◌∷◌, Contains, ⊤}
+use Rattle.jb_slice_file.specs.declared.error.StoreError.{StoreError}
+use Rattle.jb_slice_file.specs.declared.error.StoreError.TheVariants as store
 use Rattle.jb_slices.specs.Checkpoint.{Header}
 use Rattle.jb_slices.specs.Job as job
 use Rattle.jb_slices.specs.Job.{HaveInCommon, Job}
@@ -7,7 +9,7 @@ use Rattle.jb_slices.specs.Refusals.{HasOtherStamp, IsOtherJob, IsOtherSlice}
 use Rattle.jb_slice_run.specs.declared.error.IdentityPart.{IdentityPart}
 use Rattle.jb_slice_run.specs.declared.error.IdentityPart.TheVariants.{Name, SliceLength, Partitions, ItemCount, Classes}
 use Rattle.jb_slice_run.specs.declared.error.SliceError.{SliceError}
-use Rattle.jb_slice_run.specs.declared.error.SliceError.TheVariants.{OtherJob, OtherSlice, OtherItems, OtherStamp}
+use Rattle.jb_slice_run.specs.declared.error.SliceError.TheVariants.{LoweredLimit, Damaged, OtherJob, OtherSlice, OtherItems, OtherStamp, Store, TooMany}
 
 abbrev pub part_of : IdentityPart → job.IdentityPart
 part_of Name = job.Name
@@ -45,6 +47,17 @@ IsHeaderRefusal OtherSlice = ⊤
 IsHeaderRefusal OtherItems = ⊤
 IsHeaderRefusal OtherStamp = ⊤
 IsHeaderRefusal _ = ⊥
+
+-- A REFUSAL OF THE STORED CHECKPOINTS: their header is refused, they have a higher limit, or are damaged
+abbrev pub IsRefusal : SliceError → Type 0
+IsRefusal LoweredLimit = ⊤
+IsRefusal Damaged = ⊤
+IsRefusal e = IsHeaderRefusal e
+
+-- how a refusal of the file is named
+abbrev pub store_refusal : StoreError → SliceError
+store_refusal store.TooMany = TooMany
+store_refusal e = Store e
 
 -- A HEADER IS OUR OWN: its limits may differ; its stamp is ours or one of `stamps`
 pub record IsOwn (own : Header) (stamps : List (List ℕ)) (held : Header) : Type 0 where

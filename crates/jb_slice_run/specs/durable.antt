@@ -1,4 +1,2 @@
 pub mod Work
-pub mod Refusals
 pub mod Ends
-pub mod Texts

@@ -3,10 +3,9 @@
 //! - `slice`: a slice is run, or its end is collected. `resumed`: the run after the stored checkpoints. `intervals`: one interval after the other,
 //!   each stored before the next begins. `loop_end`: why they ended. `end`: how the slice ended, with its faults.
 //! - `process_runs`: any number of process runs that end in a crash, and a last one.
-//! - `listener`: gets reports of how far the slice is. `error`: why it has no end. `seen`: a run in memory, as contracts see it.
+//! - `listener`: gets reports of how far the slice is. `seen`: a run in memory, as contracts see it.
 
 mod end;
-mod error;
 mod intervals;
 mod listener;
 mod loop_end;
@@ -16,7 +15,6 @@ mod seen;
 mod slice;
 
 pub use end::SliceEnd;
-pub use error::DurableError;
 pub use listener::{NoListener, Progress, ProgressListener};
 pub use process_runs::{LastRun, Meaning, slice_through_crashes};
 pub use slice::{collect_slice, run_slice};

@@ -7,7 +7,7 @@
 //! - `job`, `job_parts`: what a run of a slice needs of its job. `digest`: that of its items. `resuming`: a slice's run after its checkpoints.
 //!   `resumable_run`: where it is, and one interval more, with the `faults` that are new. `pace`: how many rounds an interval takes.
 //! - `named`: the faults that a slice's checkpoints name, as they come.
-//! - `error`, `run_error`: why a slice isn't resumed, or has no next checkpoint. `laws`: what follows from the form.
+//! - `error`: why a slice has no end, isn't resumed, or has no next checkpoint. `laws`: what follows from the form.
 //! - `row_laws`: the rows of a slice's step as progresses of its partitions.
 //! - `durable`: a slice's run with its checkpoints in a file.
 #![tactic(auto)]
@@ -33,14 +33,13 @@ mod reading;
 mod resumable_run;
 mod resuming;
 mod row_laws;
-mod run_error;
 mod strings;
 mod text;
 mod writing;
 
 pub use durable::{
-    DurableError, LastRun, Meaning, NoListener, Progress, ProgressListener, SliceEnd,
-    collect_slice, run_slice, slice_through_crashes,
+    LastRun, Meaning, NoListener, Progress, ProgressListener, SliceEnd, collect_slice, run_slice,
+    slice_through_crashes,
 };
 pub use error::{IdentityPart, SliceError};
 pub use fault::{Fault, PartitionFaults};
@@ -55,5 +54,4 @@ pub use partition_output::{HeldSlice, PartitionOutput};
 pub use resumable_run::{ResumableRun, Stage};
 pub use resuming::resume;
 pub use row_laws::rows_are_progress;
-pub use run_error::SliceRunError;
 pub use writing::{header_checkpoint, interval_checkpoint};

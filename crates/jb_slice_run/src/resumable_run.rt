@@ -5,7 +5,7 @@ ghost use Rattle.jb_collect.specs.declared.calls.Status.TheVariants.{Failed};
 ghost use Rattle.jb_records.specs.PartitionResults.{AreAtTheirEnds};
 ghost use Rattle.jb_slice_file.specs.CheckpointBytes.{GoesOn, CheckpointBytes, checkpoint_bytes};
 ghost use Rattle.jb_slices.specs.Slice.{Functions};
-ghost use Rattle.jb_slice_run.specs.Causes.{IsIntervalCause, IsIntervalError};
+ghost use Rattle.jb_slice_run.specs.Causes.{AnyInterval, Explains, NextInterval};
 ghost use Rattle.jb_slice_run.specs.Held.{limits_in};
 ghost use Rattle.jb_slice_run.specs.Jobs.{job_in};
 ghost use Rattle.jb_slice_run.specs.SliceBytes.{KeepsSlice};
@@ -14,13 +14,13 @@ ghost use Rattle.jb_slice_run.specs.Whole.{KeepsWhole};
 ghost use Rattle.jb_slice_run.specs.Work.{GoesBy, GoesOnFrom, HasGoneOnTo, HaveRowsEnded, IsRunDone, StatusMatchesRows, SliceStandsAt};
 ghost use Rattle.jb_slice_run.specs.declared.resumable_run.Stage.TheVariants.{SomeIntervals};
 
+use crate::error::SliceError;
 use crate::fault::PartitionFaults;
 use crate::faults::all_new_output;
 use crate::job::SliceJob;
 use crate::laws::bytes_identify_checkpoints;
 use crate::named::faults_after;
 use crate::row_laws::rows_are_progress;
-use crate::run_error::SliceRunError;
 use crate::writing::interval_checkpoint;
 use jb_base::PackedList;
 use jb_collect::Status;
@@ -118,10 +118,10 @@ fn next_interval<F: RowFunction + Drop + 'static, R: Threads + Wait + Sync>(
     before: Vec<Row>,
     held: Vec<PartitionFaults>,
     rounds: u64,
-) -> Result<(ResumableRun<F>, Checkpoint), SliceRunError>
+) -> Result<(ResumableRun<F>, Checkpoint), SliceError>
     ensures stage { IfOk result (λ r. r.0.stage ≡ SomeIntervals) }
     ensures agrees { IfOk result (λ r. StatusMatchesRows r.0.has_failed r.0.stage (⟦<RecordsRun<F> as HasRunState>⟧.run_state r.0.run) r.0.rows.items) }
-    ensures own { IfErr result IsIntervalError }
+    ensures own { IfErr result (Explains AnyInterval) }
     ensures on { (functions : Functions) (all : List CheckpointBytes) → GoesOnFrom (job_in job.now) functions (F.answer function.now) (limits_in job.now.limits) number items.now (⟦<RecordsRun<F> as HasRunState>⟧.run_state run) before.items all
         → IfOk result (λ r. HasGoneOnTo (job_in job.now) functions (F.answer function.now) (limits_in job.now.limits) number items.now all (⟦<RecordsRun<F> as HasRunState>⟧.run_state r.0.run) r.0.rows.items (checkpoint_bytes r.1)) }
     ensures by { (functions : Functions) (all : List CheckpointBytes) → GoesOnFrom (job_in job.now) functions (F.answer function.now) (limits_in job.now.limits) number items.now (⟦<RecordsRun<F> as HasRunState>⟧.run_state run) before.items all
@@ -129,13 +129,13 @@ fn next_interval<F: RowFunction + Drop + 'static, R: Threads + Wait + Sync>(
     ensures faults { (functions : Functions) (all : List CheckpointBytes) → GoesOnFrom (job_in job.now) functions (F.answer function.now) (limits_in job.now.limits) number items.now (⟦<RecordsRun<F> as HasRunState>⟧.run_state run) before.items all
         → HoldsFaults (map faults_held held.items) all → IfOk result (λ r. HoldsFaults (map faults_held r.0.faults.items) (all ++ checkpoint_bytes r.1 ∷ [])) }
     ensures why { (functions : Functions) (all : List CheckpointBytes) → GoesOnFrom (job_in job.now) functions (F.answer function.now) (limits_in job.now.limits) number items.now (⟦<RecordsRun<F> as HasRunState>⟧.run_state run) before.items all
-        → IfErr result (IsIntervalCause (job_in job.now) functions number items.now all) }
+        → IfErr result (Explains (NextInterval (job_in job.now) functions number items.now all)) }
 {
     bytes_identify_checkpoints();
     rows_are_progress();
     rules_are_kept();
     let Some(first) = job.first_item(number, items.len()) else {
-        return Err(SliceRunError::TooMany);
+        return Err(SliceError::NoNumbers);
     };
     let (run, interval) = run.run_interval(rt, alloc, Some(rounds))?;
     let rows = interval.snapshot.rows;
@@ -167,8 +167,8 @@ impl<F: RowFunction + Drop + 'static> ResumableRun<F> {
     /// they failed.
     ///
     /// # Errors
-    /// `Step` if the run broke off. `Checkpoints` with `TooLong` if a result is too long for its bytes, and with `Memory`. `TooMany` if the
-    /// number after the slice's last item isn't below 2^64. The run is gone then: resume after the stored checkpoints.
+    /// `Step` if the run broke off. `TooLong` if a result is too long for its bytes. `NoNumbers` if the number after the slice's last item isn't
+    /// below 2^64. And `Memory`. The run is gone then: resume after the stored checkpoints.
     pub fn next_checkpoint<R: Threads + Wait + Sync>(
         self,
         rt: &R,
@@ -178,7 +178,7 @@ impl<F: RowFunction + Drop + 'static> ResumableRun<F> {
         function: &F,
         items: &PackedList,
         rounds: u64,
-    ) -> Result<(ResumableRun<F>, Option<Checkpoint>), SliceRunError>
+    ) -> Result<(ResumableRun<F>, Option<Checkpoint>), SliceError>
         ensures on { (functions : Functions) (all : List CheckpointBytes)
             → SliceStandsAt (job_in job.now) functions (F.answer function.now) (limits_in job.now.limits) number items.now self.stage (⟦<RecordsRun<F> as HasRunState>⟧.run_state self.run) self.rows.items all
             → IfOk result (λ r. GoesOn (KeepsSlice (job_in job.now) functions number items.now) (KeepsWhole (job_in job.now) functions (limits_in job.now.limits) number items.now)
@@ -190,10 +190,10 @@ impl<F: RowFunction + Drop + 'static> ResumableRun<F> {
             → SliceStandsAt (job_in job.now) functions (F.answer function.now) (limits_in job.now.limits) number items.now self.stage (⟦<RecordsRun<F> as HasRunState>⟧.run_state self.run) self.rows.items all
             → HoldsFaults (map faults_held self.faults.items) all
             → IfOk result (λ r. MatchOption r.1 (HoldsFaults (map faults_held r.0.faults.items) all) (λ next. HoldsFaults (map faults_held r.0.faults.items) (all ++ checkpoint_bytes next ∷ []))) }
-        ensures own { IfErr result IsIntervalError }
+        ensures own { IfErr result (Explains AnyInterval) }
         ensures why { (functions : Functions) (all : List CheckpointBytes)
             → SliceStandsAt (job_in job.now) functions (F.answer function.now) (limits_in job.now.limits) number items.now self.stage (⟦<RecordsRun<F> as HasRunState>⟧.run_state self.run) self.rows.items all
-            → IfErr result (IsIntervalCause (job_in job.now) functions number items.now all) }
+            → IfErr result (Explains (NextInterval (job_in job.now) functions number items.now all)) }
         ensures whole { IfOk result (λ r. r.1 ≡ None → AreAtTheirEnds (⟦<RecordsRun<F> as HasRunState>⟧.run_state r.0.run).setup.rows) }
         ensures settled { IfOk result (λ r. r.1 ≡ None → r.0.stage ≡ SomeIntervals) }
         ensures agrees { StatusMatchesRows self.has_failed self.stage (⟦<RecordsRun<F> as HasRunState>⟧.run_state self.run) self.rows.items

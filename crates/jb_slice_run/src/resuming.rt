@@ -3,12 +3,12 @@
 ghost use Rattle.std.specs.Prelude.{ℕ, List, ◌≡◌, ◌≤◌, ◌⊎◌, ◌-◌, ◌∷◌, [], false, length, map, slice_get, IfErr, IfOk, None, OnOk, Some};
 ghost use Rattle.std.specs.Arc.{arc_value};
 ghost use Rattle.jb_records.specs.declared.error.RecordsStepError.{RecordsStepError as RecordsStepFault};
-ghost use Rattle.jb_records.specs.Causes.{IsCauseOf};
+ghost use Rattle.jb_records.specs.Causes.{Call, Explains as ExplainsStep};
 ghost use Rattle.jb_records.specs.Function.{steady};
 ghost use Rattle.jb_slice_file.specs.CheckpointBytes.{CheckpointBytes, checkpoint_bytes};
 ghost use Rattle.jb_slices.specs.Checkpoint.{Begins, Header};
 ghost use Rattle.jb_slices.specs.Slice.{Functions};
-ghost use Rattle.jb_slice_run.specs.Causes.{IsFirstOwn, IsHeaderLong, IsResumeCause};
+ghost use Rattle.jb_slice_run.specs.Causes.{Explains, InMemory, IsFirstOwn, IsHeaderLong, Resuming};
 ghost use Rattle.jb_slice_run.specs.Held.{header_in, limits_in, new_output_in};
 ghost use Rattle.jb_slice_run.specs.Jobs.{job_in, kept_stamps, own_header, stamps_in};
 ghost use Rattle.jb_slice_run.specs.SliceBytes.{IsStoredAs, KeepsSlice};
@@ -17,8 +17,7 @@ ghost use Rattle.jb_slice_run.specs.Refusals.{IsHeaderCause, IsHeaderRefusal, Is
 ghost use Rattle.jb_slice_run.specs.Step.{AreStampsOf, IsStepOfSlice};
 ghost use Rattle.jb_slice_run.specs.Whole.{KeepsWhole};
 ghost use Rattle.jb_slice_run.specs.Work.{HasNoResults, IsRunDone, StatusMatchesRows, HasIntervals, RunsSlice, SliceStandsAt};
-ghost use Rattle.jb_slice_run.specs.declared.error.SliceError.TheVariants.{Damaged, Memory, TooLong};
-ghost use Rattle.jb_slice_run.specs.declared.run_error.SliceRunError.TheVariants.{Step};
+ghost use Rattle.jb_slice_run.specs.declared.error.SliceError.TheVariants.{Damaged, Memory, Step, TooLong};
 ghost use Rattle.jb_slice_run.specs.declared.resumable_run.Stage.TheVariants.{HeaderOnly, SomeIntervals};
 
 use crate::digest::digest_of;
@@ -32,7 +31,6 @@ use crate::lists::{HeaderLists, refuse_lowered};
 use crate::partition_output::PartitionOutput;
 use crate::resumable_run::{ResumableRun, Stage};
 use crate::row_laws::rows_are_progress;
-use crate::run_error::SliceRunError;
 use crate::writing::header_checkpoint;
 use jb_base::PackedList;
 use jb_records::{HasRunState, RecordsRun, RecordsStep, rules_are_kept};
@@ -105,7 +103,7 @@ fn begun<F: RowFunction + Drop>(
     function: &Arc<F, Global>,
     items: &PackedList,
     stage: Stage,
-) -> Result<ResumableRun<F>, SliceRunError>
+) -> Result<ResumableRun<F>, SliceError>
     requires step { IsStepOfSlice (job_in job.now) (limits_in job.now.limits) job.now.threads step.now }
     ensures runs { IfOk result (λ place. RunsSlice (job_in job.now) (F.answer (arc_value function.now)) (limits_in job.now.limits) items.now (⟦<RecordsRun<F> as HasRunState>⟧.run_state place.run)) }
     ensures empty { IfOk result (λ place. HasNoResults (⟦<RecordsRun<F> as HasRunState>⟧.run_state place.run)) }
@@ -114,7 +112,7 @@ fn begun<F: RowFunction + Drop>(
     ensures faults { IfOk result (λ place. place.faults.items ≡ []) }
     ensures fresh { IfOk result (λ place. place.has_failed ≡ false) }
     ensures agrees { IfOk result (λ place. StatusMatchesRows place.has_failed place.stage (⟦<RecordsRun<F> as HasRunState>⟧.run_state place.run) place.rows.items) }
-    ensures why { IfErr result (λ e. (why : RecordsStepFault) × (e ≡ Step why) × IsCauseOf (steady (F.answer (arc_value function.now))) step.now items.now None why) }
+    ensures why { IfErr result (λ e. (why : RecordsStepFault) × (e ≡ Step why) × ExplainsStep (Call (steady (F.answer (arc_value function.now))) step.now items.now None) why) }
 {
     rows_are_progress();
     let run = RecordsRun::begin(alloc, step, function, items)?;
@@ -136,7 +134,7 @@ fn blank<F: RowFunction + Drop>(
     number: u64,
     items: &PackedList,
     own: &SliceHeader,
-) -> Result<ResumableRun<F>, SliceRunError>
+) -> Result<ResumableRun<F>, SliceError>
     requires step { IsStepOfSlice (job_in job.now) (limits_in job.now.limits) job.now.threads step.now }
     requires own { header_in own.now ≡ own_header job.now number items.now }
     ensures stands { (functions : Functions) (all : List CheckpointBytes) → all ≡ [] → functions job.now.stamp.now ≡ F.answer (arc_value function.now)
@@ -144,7 +142,7 @@ fn blank<F: RowFunction + Drop>(
     ensures fresh { IfOk result (λ place. place.has_failed ≡ false) }
     ensures agrees { IfOk result (λ place. StatusMatchesRows place.has_failed place.stage (⟦<RecordsRun<F> as HasRunState>⟧.run_state place.run) place.rows.items) }
     ensures faults { IfOk result (λ place. place.faults.items ≡ []) }
-    ensures why { (all : List CheckpointBytes) → IfErr result (IsResumeCause job.now (F.answer (arc_value function.now)) number items.now all) }
+    ensures why { (all : List CheckpointBytes) → IfErr result (Explains (Resuming job.now (F.answer (arc_value function.now)) number items.now InMemory all)) }
 {
     let first = header_checkpoint(alloc, own)?;
     begun(
@@ -165,7 +163,7 @@ fn after_header<F: RowFunction + Drop>(
     function: &Arc<F, Global>,
     items: &PackedList,
     limits: SliceLimits,
-) -> Result<ResumableRun<F>, SliceRunError>
+) -> Result<ResumableRun<F>, SliceError>
     requires step { IsStepOfSlice (job_in job.now) (limits_in job.now.limits) job.now.threads step.now }
     ensures stands { (functions : Functions) (number : ℕ) (first : CheckpointBytes) (h : Header) (all : List CheckpointBytes) → all ≡ first ∷ [] → IsStoredAs (Begins h) first → h.limits ≡ limits_in limits → functions h.stamp ≡ F.answer (arc_value function.now)
         → KeepsSlice (job_in job.now) functions number items.now all
@@ -175,7 +173,7 @@ fn after_header<F: RowFunction + Drop>(
     ensures fresh { IfOk result (λ place. place.has_failed ≡ false) }
     ensures agrees { IfOk result (λ place. StatusMatchesRows place.has_failed place.stage (⟦<RecordsRun<F> as HasRunState>⟧.run_state place.run) place.rows.items) }
     ensures why { (number : ℕ) (first : CheckpointBytes) → ((h : Header) → IsStoredAs (Begins h) first → h.limits ≡ limits_in limits)
-        → IfErr result (IsResumeCause job.now (F.answer (arc_value function.now)) number items.now (first ∷ [])) }
+        → IfErr result (Explains (Resuming job.now (F.answer (arc_value function.now)) number items.now InMemory (first ∷ []))) }
 {
     bytes_identify_checkpoints();
     refuse_lowered(job.limits, limits)?;
@@ -192,7 +190,7 @@ fn behind<F: RowFunction + Drop>(
     limits: SliceLimits,
     later: &[Checkpoint],
     last: &Checkpoint,
-) -> Result<ResumableRun<F>, SliceRunError>
+) -> Result<ResumableRun<F>, SliceError>
     requires step { IsStepOfSlice (job_in job.now) (limits_in job.now.limits) job.now.threads step.now }
     requires last { slice_get later.now (length later.now - 1) ≡ Some last.now }
     ensures underway { (functions : Functions) (number : ℕ) (first : CheckpointBytes) (h : Header) → IsStoredAs (Begins h) first → h.limits ≡ limits_in limits → functions h.stamp ≡ F.answer (arc_value function.now)
@@ -207,7 +205,7 @@ fn behind<F: RowFunction + Drop>(
         → KeepsWhole (job_in job.now) functions (limits_in job.now.limits) number items.now (first ∷ map checkpoint_bytes later.now)
         → IfOk result (λ place. IsRunDone place.has_failed place.stage (⟦<RecordsRun<F> as HasRunState>⟧.run_state place.run)) }
     ensures why { (number : ℕ) (first : CheckpointBytes) → ((h : Header) → IsStoredAs (Begins h) first → h.limits ≡ limits_in limits)
-        → IfErr result (IsResumeCause job.now (F.answer (arc_value function.now)) number items.now (first ∷ map checkpoint_bytes later.now)) }
+        → IfErr result (Explains (Resuming job.now (F.answer (arc_value function.now)) number items.now InMemory (first ∷ map checkpoint_bytes later.now))) }
 {
     rules_are_kept();
     rows_are_progress();
@@ -233,8 +231,8 @@ fn behind<F: RowFunction + Drop>(
 /// stamp is resumed if the job accepts that stamp. Limits may be raised.
 ///
 /// # Errors
-/// `Checkpoints` with `OtherJob`, `OtherSlice`, `OtherItems` or `OtherStamp` if the header is refused. `Checkpoints` with `TooLong` if a text or an
-/// item is too long for its bytes, and with `LoweredLimit`, `Damaged` or `Memory`. `Step` if the step can't start.
+/// `OtherJob`, `OtherSlice`, `OtherItems` or `OtherStamp` if the header is refused. `TooLong` if a text or an item is too long for its bytes.
+/// `Step` if the step can't start. And `LoweredLimit`, `Damaged` or `Memory`.
 pub fn resume<F: RowFunction + Drop>(
     alloc: Global,
     job: &SliceJob,
@@ -242,7 +240,7 @@ pub fn resume<F: RowFunction + Drop>(
     function: &Arc<F, Global>,
     items: &PackedList,
     done: &[Checkpoint],
-) -> Result<ResumableRun<F>, SliceRunError>
+) -> Result<ResumableRun<F>, SliceError>
     ensures stands { (functions : Functions) → AreStampsOf functions (F.answer (arc_value function.now)) (stamps_in job.now) → KeepsSlice (job_in job.now) functions number items.now (map checkpoint_bytes done.now)
         → IfOk result (λ place. SliceStandsAt (job_in job.now) functions (F.answer (arc_value function.now)) (limits_in job.now.limits) number items.now place.stage (⟦<RecordsRun<F> as HasRunState>⟧.run_state place.run) place.rows.items (map checkpoint_bytes done.now)) }
     ensures faults { (functions : Functions) → KeepsSlice (job_in job.now) functions number items.now (map checkpoint_bytes done.now)
@@ -254,7 +252,7 @@ pub fn resume<F: RowFunction + Drop>(
     ensures fresh { IfOk result (λ place. place.has_failed ≡ false) }
     ensures later { 2 ≤ length done.now → IfOk result (λ place. place.stage ≡ SomeIntervals) }
     ensures own { OnOk result (IsFirstOwn (own_header job.now number items.now) (kept_stamps job.now) (map checkpoint_bytes done.now)) }
-    ensures cause { IfErr result (IsResumeCause job.now (F.answer (arc_value function.now)) number items.now (map checkpoint_bytes done.now)) }
+    ensures cause { IfErr result (Explains (Resuming job.now (F.answer (arc_value function.now)) number items.now InMemory (map checkpoint_bytes done.now))) }
 {
     rows_are_progress();
     bytes_identify_checkpoints();

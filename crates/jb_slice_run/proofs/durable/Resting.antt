@@ -1,19 +1,17 @@
 -- From one checkpoint that is kept to the next.
-use Rattle.std.proofs.Common.{ℕ, ◌≡◌, ◌≤◌, List, IsTrue, inl, subst}
+use Rattle.std.proofs.Common.{ℕ, ◌≡◌, ◌≤◌, List, IsTrue, subst}
 use Rattle.jb_slice_file.specs.Connections.{Keeps}
 use Rattle.jb_slice_file.specs.ListEnd.{IsEndOf}
 use Rattle.jb_slice_run.specs.Named.{HoldsFaults}
 use Rattle.jb_slice_run.specs.Work.{GoesBy, SliceStandsAt}
 use Rattle.sqlite.specs.State.{State}
-use Rattle.sqlite_trees.specs.Tree.{Trees}
 use Rattle.sqlite_trees.specs.View.{doubt}
 use Rattle.jb_slice_file.specs.CheckpointBytes.{CheckpointBytes}
 use Rattle.jb_slice_file.specs.declared.list_end.ListEnd.{ListEnd}
-use Rattle.jb_slice_file.specs.Files.{HasRunCheckpoints}
 use Rattle.jb_slice_file.proofs.Clean.{clean_before}
-use Rattle.jb_slice_run.specs.durable.Work.{FileMatchesMemory, IsResumed, IsShown, IsWhole, Seen, SliceInput, SoFar, StandsPaused}
+use Rattle.jb_slice_run.specs.durable.Work.{FileMatchesMemory, IfCut, IfWhole, IsResumed, IsShown, IsWhole, Seen, SliceInput, SoFar, StandsPaused}
 use Rattle.jb_slice_run.specs.declared.durable.loop_end.LoopEnd.{LoopEnd}
-use Rattle.jb_slice_run.specs.declared.durable.loop_end.LoopEnd.TheVariants.{Whole}
+use Rattle.jb_slice_run.specs.declared.durable.loop_end.LoopEnd.TheVariants.{Intervals}
 
 module _ (w : SliceInput) where
   -- after the checkpoints that were found
@@ -29,12 +27,12 @@ module _ (w : SliceInput) where
   }
 
   -- and the intervals ended there
-  pub paused_so : (s : State) (at : Seen) (loop_end : LoopEnd) (end : ListEnd) (all : List CheckpointBytes) → FileMatchesMemory w s at end all → (loop_end ≡ Whole → IsWhole w all) → StandsPaused w at loop_end all
+  pub paused_so : (s : State) (at : Seen) (loop_end : LoopEnd) (end : ListEnd) (all : List CheckpointBytes) → FileMatchesMemory w s at end all → IfWhole loop_end (IsWhole w all) → StandsPaused w at loop_end all
   paused_so s at loop_end end all rests whole = record { place = rests.place; faults = rests.faults; by = rests.by; whole = whole }
 
-  -- a crash leaves the checkpoints of the slice so far
-  pub rests_safe : (s : State) (at : Seen) (end : ListEnd) (all : List CheckpointBytes) → FileMatchesMemory w s at end all → (db : Trees) → s.may_leave db → HasRunCheckpoints (SoFar w) db
-  rests_safe s at end all rests db may = (all, inl (rests.keeps.leaves db may), rests.so_far)
+pub cut_to : (loop_end : LoopEnd) (P Q : Type 0) → IfCut loop_end P → (P → Q) → IfCut loop_end Q
+cut_to Intervals P Q p to = to p
+cut_to loop_end P Q p to = tt
 
 -- ---- what was clean after the call was so before it ended
 

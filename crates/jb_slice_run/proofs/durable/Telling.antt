@@ -1,5 +1,5 @@
 -- What is told of a slice that has ended.
-use Rattle.std.proofs.Common.{ℕ, ◌≡◌, ◌+◌, Bool, false, true, not, ◌||◌, cond, List, [], ◌∷◌, ◌++◌, length, map, refl, ap, sym, subst, ◌∙◌, arith}
+use Rattle.std.proofs.Common.{ℕ, ◌≡◌, ◌+◌, Bool, IsTrue, false, true, not, ◌||◌, cond, List, [], ◌∷◌, ◌++◌, length, map, refl, ap, sym, subst, ◌∙◌, arith}
 use Rattle.std.proofs.lemmas.List.{length-map}
 use Rattle.std.proofs.lemmas.List.Recursion.{is_count_by}
 use Rattle.std.specs.List.{AllByRecursion, count_by, list_any}
@@ -29,8 +29,10 @@ use Rattle.jb_slice_run.specs.declared.named.SliceFaults.{SliceFaults}
 use Rattle.jb_slice_run.specs.declared.resumable_run.Stage.{Stage}
 use Rattle.jb_slice_run.specs.declared.resumable_run.Stage.TheVariants.{SomeIntervals}
 use Rattle.jb_slice_run.specs.durable.Ends.{AreFailuresOf, HasAllResults, HasEnded}
-use Rattle.jb_slice_run.specs.durable.Work.{IsWhole, SliceInput}
+use Rattle.jb_slice_run.specs.durable.Work.{EndsAs, IsWhole, LoopEndMatchesRows, Seen, SliceInput}
 use Rattle.jb_slice_run.specs.declared.durable.end.SliceEnd.{SliceEnd}
+use Rattle.jb_slice_run.specs.declared.durable.loop_end.LoopEnd.{LoopEnd}
+use Rattle.jb_slice_run.specs.declared.durable.loop_end.LoopEnd.TheVariants.{Failed as Failing, Whole}
 
 -- ---- what rows tell
 
@@ -61,6 +63,14 @@ failed_by false false is = let none : ⊥ = cc in absurd none
 
 pub one_failed : (rows : List Row) → status_of rows false ≡ Failed → HasFailed rows
 one_failed rows is = failed_by (list_any (λ row. is_failed row.state) rows) (list_any (λ row. not (is_finished row.state)) rows) is
+
+-- ---- how the intervals ended
+
+pub ended_whole : (at : Seen) (loop_end : LoopEnd) → LoopEndMatchesRows at loop_end → loop_end ≡ Whole → (at.stage ≡ SomeIntervals) × AreAtTheirEnds at.run.setup.rows
+ended_whole at loop_end agrees is = subst (EndsAs at) is agrees.ends
+
+pub ended_failed : (at : Seen) (loop_end : LoopEnd) → LoopEndMatchesRows at loop_end → loop_end ≡ Failing → IsTrue at.has_failed
+ended_failed at loop_end agrees is = subst (EndsAs at) is agrees.ends
 
 -- ---- what is kept
 

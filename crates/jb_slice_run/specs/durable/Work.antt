@@ -1,5 +1,5 @@
 -- What a run of a slice works on, and where its work is over a connection.
-use Rattle.std.specs.Prelude.{ℕ, Bool, List, IsTrue, ◌≡◌}
+use Rattle.std.specs.Prelude.{ℕ, Bool, List, IsTrue, ◌≡◌, ⊤}
 use Rattle.sqlite.specs.State.{HasCleanDisk, State}
 use Rattle.jb_records.specs.PartitionResults.{AreAtTheirEnds}
 use Rattle.jb_records.specs.Intervals.{RunState}
@@ -23,7 +23,7 @@ use Rattle.jb_slice_run.specs.declared.job.SliceJob.{SliceJob}
 use Rattle.jb_slice_run.specs.declared.resumable_run.Stage.{Stage}
 use Rattle.jb_slice_run.specs.declared.resumable_run.Stage.TheVariants.{SomeIntervals}
 use Rattle.jb_slice_run.specs.declared.durable.loop_end.LoopEnd.{LoopEnd}
-use Rattle.jb_slice_run.specs.declared.durable.loop_end.LoopEnd.TheVariants.{Failed, Whole}
+use Rattle.jb_slice_run.specs.declared.durable.loop_end.LoopEnd.TheVariants.{Failed, Intervals, Whole}
 
 -- what a run works on: its job and limits, its function and that of each stamp, and the slice's number and items
 pub record SliceInput : Type 0 where
@@ -109,21 +109,33 @@ IfFileMatchesMemory job f number items old new at end Holds =
 
 -- ---- WHERE THE INTERVALS ENDED
 
+-- this holds if the intervals ended with `Whole`, or with `Intervals`
+abbrev pub IfWhole : LoopEnd → Type 0 → Type 0
+IfWhole Whole Holds = Holds
+IfWhole _ Holds = ⊤
+
+abbrev pub IfCut : LoopEnd → Type 0 → Type 0
+IfCut Intervals Holds = Holds
+IfCut _ Holds = ⊤
+
 -- If the intervals ended with `Whole`, each partition is at its end, and an interval is stored. If they ended with `Failed`, the slice has failed.
+abbrev pub EndsAs : Seen → LoopEnd → Type 0
+EndsAs at Whole = (at.stage ≡ SomeIntervals) × AreAtTheirEnds at.run.setup.rows
+EndsAs at Failed = IsTrue at.has_failed
+EndsAs at _ = ⊤
+
 pub record LoopEndMatchesRows (at : Seen) (loop_end : LoopEnd) : Type 0 where
   pub agrees : SeenMatchesRows at
-  pub settled : loop_end ≡ Whole → at.stage ≡ SomeIntervals
-  pub finished : loop_end ≡ Whole → AreAtTheirEnds at.run.setup.rows
-  pub failed : loop_end ≡ Failed → IsTrue at.has_failed
+  pub ends : EndsAs at loop_end
 
 -- the run in memory is after these checkpoints, with their faults; they store a whole slice if the intervals ended with `Whole`
 pub record StandsPaused (w : SliceInput) (at : Seen) (loop_end : LoopEnd) (all : List CheckpointBytes) : Type 0 where
   pub place : SliceStandsAt w.job w.functions w.f w.limits w.number w.items at.stage at.run at.rows all
   pub faults : HoldsFaults at.faults all
   pub by : IsTrue at.has_failed → GoesBy w.limits all
-  pub whole : loop_end ≡ Whole → IsWhole w all
+  pub whole : IfWhole loop_end (IsWhole w all)
 
 -- the file matches the memory; the stored slice is whole if the intervals ended with `Whole`
 pub record HasLoopEnded (w : SliceInput) (s : State) (at : Seen) (loop_end : LoopEnd) (end : ListEnd) (all : List CheckpointBytes) : Type 0 where
   pub rests : FileMatchesMemory w s at end all
-  pub whole : loop_end ≡ Whole → IsWhole w all
+  pub whole : IfWhole loop_end (IsWhole w all)

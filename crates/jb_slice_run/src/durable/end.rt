@@ -6,21 +6,21 @@ ghost use Rattle.jb_records.specs.PartitionResults.{joined};
 ghost use Rattle.jb_slice_file.specs.CheckpointBytes.{CheckpointBytes};
 ghost use Rattle.jb_slices.specs.Function.{Function};
 ghost use Rattle.jb_slices.specs.Slice.{Functions};
+ghost use Rattle.jb_slice_run.specs.Causes.{Ending, Explains};
 ghost use Rattle.jb_slice_run.specs.Named.{faults_held};
+ghost use Rattle.jb_slice_run.specs.Refusals.{IsRefusal};
 ghost use Rattle.jb_slice_run.specs.Work.{HaveRowsEnded};
 ghost use Rattle.jb_step.specs.Statuses.{status_of};
 ghost use Rattle.jb_slice_run.specs.durable.Ends.{HasEnded};
-ghost use Rattle.jb_slice_run.specs.durable.Refusals.{IsRefusal, IsUnended};
 ghost use Rattle.jb_slice_run.specs.durable.Work.{LoopEndMatchesRows, StandsPaused, slice_input_of};
-ghost use Rattle.jb_slice_run.specs.declared.durable.error.DurableError.TheVariants.{Stopped, TooMany};
+ghost use Rattle.jb_slice_run.specs.declared.error.SliceError.TheVariants.{Stopped, TooMany};
 ghost use Rattle.jb_slice_run.specs.declared.durable.loop_end.LoopEnd.TheVariants.{Failed as Failing, Intervals, Whole};
 
-use crate::durable::error::DurableError;
 use crate::durable::loop_end::LoopEnd;
 use crate::durable::seen::Placed;
 use crate::{
-    Fault, PartitionFailure, PartitionFaults, ResumableRun, SliceJob, bytes_identify_checkpoints,
-    faults_of_slice, rows_are_progress,
+    Fault, PartitionFailure, PartitionFaults, ResumableRun, SliceError, SliceJob,
+    bytes_identify_checkpoints, faults_of_slice, rows_are_progress,
 };
 use jb_base::PackedList;
 use jb_collect::Status;
@@ -57,7 +57,7 @@ impl SliceEnd {
 }
 
 /// The status of a slice whose intervals ended in this way.
-fn status_at(loop_end: LoopEnd) -> Result<Status, DurableError>
+fn status_at(loop_end: LoopEnd) -> Result<Status, SliceError>
     ensures either { IfOk result (λ status. (status ≡ Completed) ⊎ (status ≡ Failed)) }
     ensures whole { IfOk result (λ status. status ≡ Completed → loop_end ≡ Whole) }
     ensures failed { IfOk result (λ status. status ≡ Failed → loop_end ≡ Failing) }
@@ -68,8 +68,8 @@ fn status_at(loop_end: LoopEnd) -> Result<Status, DurableError>
     match loop_end {
         LoopEnd::Whole => Ok(Status::Completed),
         LoopEnd::Failed => Ok(Status::Failed),
-        LoopEnd::Stopped => Err(DurableError::Stopped),
-        LoopEnd::Intervals => Err(DurableError::TooMany),
+        LoopEnd::Stopped => Err(SliceError::Stopped),
+        LoopEnd::Intervals => Err(SliceError::TooMany),
     }
 }
 
@@ -91,9 +91,9 @@ pub(crate) fn ended<F: RowFunction + Drop>(
     job: &SliceJob,
     place: ResumableRun<F>,
     loop_end: LoopEnd,
-) -> Result<SliceEnd, DurableError>
+) -> Result<SliceEnd, SliceError>
     ensures ends { (functions : Functions) (f : Function) (number : ℕ) (items : List (List ℕ)) (all : List CheckpointBytes) → StandsPaused (slice_input_of job.now functions f number items) (⟦<ResumableRun<F> as Placed>⟧.seen place) loop_end all → LoopEndMatchesRows (⟦<ResumableRun<F> as Placed>⟧.seen place) loop_end → IfOk result (λ end. HasEnded (slice_input_of job.now functions f number items) end all) }
-    ensures why { IfErr result (IsUnended (loop_end ≡ Intervals)) }
+    ensures why { IfErr result (Explains (Ending loop_end)) }
     ensures agrees { LoopEndMatchesRows (⟦<ResumableRun<F> as Placed>⟧.seen place) loop_end → IfOk result (λ end. (end.status ≡ status_of end.rows.items false) × HaveRowsEnded end.rows.items) }
     ensures status { IfOk result (λ end. (end.status ≡ Completed) ⊎ (end.status ≡ Failed)) }
     ensures whole { loop_end ≡ Whole → IfOk result (λ end. end.status ≡ Completed) }

@@ -11,16 +11,16 @@ ghost use Rattle.jb_slice_file.specs.Files.{HasRunCheckpoints};
 ghost use Rattle.jb_slice_file.specs.CheckpointBytes.{CheckpointBytes};
 ghost use Rattle.jb_slice_file.specs.ListEnd.{count_of};
 ghost use Rattle.jb_slice_file.specs.declared.list_end.ListEnd.{ListEnd as FileEnd};
+ghost use Rattle.jb_slice_run.specs.Causes.{Appending, Explains};
+ghost use Rattle.jb_slice_run.specs.Refusals.{IsRefusal};
 ghost use Rattle.jb_slice_run.specs.declared.resumable_run.Stage.TheVariants.{SomeIntervals};
-ghost use Rattle.jb_slice_run.specs.durable.Refusals.{IsGoneCause, IsRefusal};
-ghost use Rattle.jb_slice_run.specs.durable.Work.{HasLoopEnded, IfFileMatchesMemory, FileMatchesMemory, LoopEndMatchesRows, IsSeenDone, SeenMatchesRows, IsWhole, SoFar};
-ghost use Rattle.jb_slice_run.specs.declared.durable.loop_end.LoopEnd.TheVariants.{Intervals, Whole};
+ghost use Rattle.jb_slice_run.specs.durable.Work.{HasLoopEnded, IfCut, IfFileMatchesMemory, FileMatchesMemory, LoopEndMatchesRows, IsSeenDone, SeenMatchesRows, IsWhole, SoFar};
+ghost use Rattle.jb_slice_run.specs.declared.durable.loop_end.LoopEnd.TheVariants.{Whole};
 
-use crate::durable::error::DurableError;
 use crate::durable::listener::{ProgressListener, progress_of};
 use crate::durable::loop_end::LoopEnd;
 use crate::durable::seen::{Placed, is_whole};
-use crate::{Pace, ResumableRun, SliceJob, Stage};
+use crate::{Pace, ResumableRun, SliceError, SliceJob, Stage};
 use jb_base::PackedList;
 use jb_rows::RowFunction;
 use jb_rules::Row;
@@ -42,10 +42,10 @@ fn advance<F: RowFunction + Drop + 'static, R: Threads + Wait + Sync, S: Alter>(
     place: ResumableRun<F>,
     rounds: u64,
     end: &mut ListEnd,
-) -> Result<(ResumableRun<F>, bool), DurableError>
+) -> Result<(ResumableRun<F>, bool), SliceError>
     ensures kept { place.has_failed ≡ false → IfFileMatchesMemory job.now (F.answer (arc_value function.now)) number items.now (state S.Store conn.old) (state S.Store conn.new) (⟦<ResumableRun<F> as Placed>⟧.seen place) end.old (λ w all. IfOk result (λ r. (now : List CheckpointBytes) × FileMatchesMemory w (state S.Store conn.new) (⟦<ResumableRun<F> as Placed>⟧.seen r.0) end.new now × (r.1 ≡ false → IsWhole w now))) }
     ensures own { IfErr result (λ e. IsRefusal e → ⊥) }
-    ensures cause { IfFileMatchesMemory job.now (F.answer (arc_value function.now)) number items.now (state S.Store conn.old) (state S.Store conn.new) (⟦<ResumableRun<F> as Placed>⟧.seen place) end.old (λ w all. IfErr result (IsGoneCause w (state S.Store conn.old) (state S.Store conn.new))) }
+    ensures cause { IfFileMatchesMemory job.now (F.answer (arc_value function.now)) number items.now (state S.Store conn.old) (state S.Store conn.new) (⟦<ResumableRun<F> as Placed>⟧.seen place) end.old (λ w all. IfErr result (Explains (Appending w (state S.Store conn.old) (state S.Store conn.new)))) }
     ensures counted { IfOk result (λ r. r.1 ≡ true → count_of end.new ≡ count_of end.old + 1) }
     ensures settled { IfOk result (λ r. r.1 ≡ false → r.0.stage ≡ SomeIntervals) }
     ensures counts { (state S.Store conn.old).faults ≤ (state S.Store conn.new).faults }
@@ -115,10 +115,10 @@ pub(crate) fn run<
     intervals: u32,
     pace: &mut P,
     listener: &mut O,
-) -> Result<(ResumableRun<F>, LoopEnd), DurableError>
-    ensures kept { IfFileMatchesMemory job.now (F.answer (arc_value function.now)) number items.now (state S.Store conn.old) (state S.Store conn.new) (⟦<ResumableRun<F> as Placed>⟧.seen place) end (λ w all. IfOk result (λ r. (now : List CheckpointBytes) × (last : FileEnd) × HasLoopEnded w (state S.Store conn.new) (⟦<ResumableRun<F> as Placed>⟧.seen r.0) r.1 last now × (r.1 ≡ Intervals → count_of last ≡ count_of end + intervals))) }
+) -> Result<(ResumableRun<F>, LoopEnd), SliceError>
+    ensures kept { IfFileMatchesMemory job.now (F.answer (arc_value function.now)) number items.now (state S.Store conn.old) (state S.Store conn.new) (⟦<ResumableRun<F> as Placed>⟧.seen place) end (λ w all. IfOk result (λ r. (now : List CheckpointBytes) × (last : FileEnd) × HasLoopEnded w (state S.Store conn.new) (⟦<ResumableRun<F> as Placed>⟧.seen r.0) r.1 last now × IfCut r.1 (count_of last ≡ count_of end + intervals))) }
     ensures own { IfErr result (λ e. IsRefusal e → ⊥) }
-    ensures cause { IfFileMatchesMemory job.now (F.answer (arc_value function.now)) number items.now (state S.Store conn.old) (state S.Store conn.new) (⟦<ResumableRun<F> as Placed>⟧.seen place) end (λ w all. IfErr result (IsGoneCause w (state S.Store conn.old) (state S.Store conn.new))) }
+    ensures cause { IfFileMatchesMemory job.now (F.answer (arc_value function.now)) number items.now (state S.Store conn.old) (state S.Store conn.new) (⟦<ResumableRun<F> as Placed>⟧.seen place) end (λ w all. IfErr result (Explains (Appending w (state S.Store conn.old) (state S.Store conn.new)))) }
     ensures counts { (state S.Store conn.old).faults ≤ (state S.Store conn.new).faults }
     ensures shut { HasCleanDisk (state S.Store conn.new) → IsTrue (state S.Store conn.old).is_open
         → IsTrue (state S.Store conn.new).is_open ⊎ MoreFaults (state S.Store conn.old).faults (state S.Store conn.new).faults }

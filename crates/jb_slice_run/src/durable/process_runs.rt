@@ -17,12 +17,11 @@ ghost use Rattle.jb_slice_run.specs.durable.Ends.{KeepsAll};
 ghost use Rattle.jb_slice_run.specs.durable.Work.{IfHad, SoFar, slice_input_of};
 ghost use Rattle.jb_slice_run.specs.declared.durable.loop_end.LoopEnd.TheVariants.{Whole};
 
-use crate::durable::error::DurableError;
 use crate::durable::intervals::run;
 use crate::durable::listener::ProgressListener;
 use crate::durable::loop_end::LoopEnd;
 use crate::durable::resumed::resumed;
-use crate::{Pace, SliceJob, bytes_identify_checkpoints};
+use crate::{Pace, SliceError, SliceJob, bytes_identify_checkpoints};
 use jb_base::PackedList;
 use jb_rows::RowFunction;
 use jb_slice_file::{DiskHistory, ProcessRun, closed, open_own, open_recording, stop_recording};
@@ -73,7 +72,7 @@ fn resume_and_run<
     intervals: u32,
     pace: &mut P,
     listener: &mut O,
-) -> Result<bool, DurableError>
+) -> Result<bool, SliceError>
     ensures done { IfHad job.now (F.answer (arc_value function.now)) number items.now (state S.Store conn.old) (state S.Store conn.new) (λ w all. IfOk result (λ done. IsTrue done → (now : List CheckpointBytes) × KeepsAll w (state S.Store conn.new) now)) }
     ensures clean { doubt (state S.Store conn.old).is_clean ≤ doubt (state S.Store conn.new).is_clean }
     ensures crash { IfHad job.now (F.answer (arc_value function.now)) number items.now (state S.Store conn.old) (state S.Store conn.new) (λ w all. (db : _) → (state S.Store conn.new).may_leave db → HasRunCheckpoints (SoFar w) db) }
@@ -105,7 +104,7 @@ fn run_over_files<
     intervals: u32,
     pace: &mut P,
     listener: &mut O,
-) -> Result<bool, DurableError>
+) -> Result<bool, SliceError>
     ensures done { IfHad job.now (F.answer (arc_value function.now)) number items.now (file_state conn.old) (file_state conn.new) (λ w all. IfOk result (λ done. IsTrue done → (now : List CheckpointBytes) × KeepsAll w (file_state conn.new) now)) }
     ensures clean { doubt (file_state conn.old).is_clean ≤ doubt (file_state conn.new).is_clean }
     ensures crash { IfHad job.now (F.answer (arc_value function.now)) number items.now (file_state conn.old) (file_state conn.new) (λ w all. (db : _) → (file_state conn.new).may_leave db → HasRunCheckpoints (SoFar w) db) }

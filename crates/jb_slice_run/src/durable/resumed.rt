@@ -9,14 +9,13 @@ ghost use Rattle.sqlite_trees.specs.View.{doubt};
 ghost use Rattle.jb_slice_file.specs.Connections.{IsJustOpened, Keeps};
 ghost use Rattle.jb_slice_file.specs.CheckpointBytes.{CheckpointBytes};
 ghost use Rattle.jb_slice_file.specs.Rows.{Has, ShowsList};
-ghost use Rattle.jb_slice_run.specs.Causes.{IsFirstOwn};
+ghost use Rattle.jb_slice_run.specs.Causes.{Explains, IsFirstOwn, OfFile, Resuming};
 ghost use Rattle.jb_slice_run.specs.Jobs.{kept_stamps, own_header};
-ghost use Rattle.jb_slice_run.specs.durable.Refusals.{IsRefusal, IsUntaken};
+ghost use Rattle.jb_slice_run.specs.Refusals.{IsRefusal};
 ghost use Rattle.jb_slice_run.specs.durable.Work.{IfResumed, IfShown, FileMatchesMemory, IsSeenDone, SeenMatchesRows, IsWhole};
 
-use crate::durable::error::DurableError;
 use crate::durable::seen::Placed;
-use crate::{ResumableRun, SliceJob, resume};
+use crate::{ResumableRun, SliceError, SliceJob, resume};
 use jb_base::PackedList;
 use jb_rows::RowFunction;
 use jb_slice_file::{ListEnd, begin};
@@ -32,7 +31,7 @@ pub(crate) fn resumed<F: RowFunction + Drop, S: Alter>(
     number: u64,
     function: &Arc<F, Global>,
     items: &PackedList,
-) -> Result<(ResumableRun<F>, ListEnd), DurableError>
+) -> Result<(ResumableRun<F>, ListEnd), SliceError>
     ensures shown { IsJustOpened (state S.Store conn.old) → (all : List CheckpointBytes) → Has (state S.Store conn.old).now.trees all → ShowsList (state S.Store conn.old).now all }
     ensures rests { IfResumed job.now (F.answer (arc_value function.now)) number items.now (state S.Store conn.old) (state S.Store conn.new) (λ w all. IfOk result (λ r. FileMatchesMemory w (state S.Store conn.new) (⟦<ResumableRun<F> as Placed>⟧.seen r.0) r.1 all)) }
     ensures agrees { IfOk result (λ r. SeenMatchesRows (⟦<ResumableRun<F> as Placed>⟧.seen r.0)) }
@@ -40,8 +39,8 @@ pub(crate) fn resumed<F: RowFunction + Drop, S: Alter>(
     ensures left { IfShown (state S.Store conn.old) (state S.Store conn.new) (λ all. (db : _) → (state S.Store conn.new).may_leave db → Has db all) }
     ensures kept { IfShown (state S.Store conn.old) (state S.Store conn.new) (λ all. OnOk result (Keeps (state S.Store conn.new) all)) }
     ensures own { IfShown (state S.Store conn.old) (state S.Store conn.new) (λ all. OnOk result (IsFirstOwn (own_header job.now number items.now) (kept_stamps job.now) all)) }
-    ensures refused { IfShown (state S.Store conn.old) (state S.Store conn.new) (λ all. IfErr result (λ e. IsRefusal e → IsUntaken job.now (F.answer (arc_value function.now)) number items.now (state S.Store conn.old) (state S.Store conn.new) all e × Keeps (state S.Store conn.new) all)) }
-    ensures cause { IfShown (state S.Store conn.old) (state S.Store conn.new) (λ all. IfErr result (IsUntaken job.now (F.answer (arc_value function.now)) number items.now (state S.Store conn.old) (state S.Store conn.new) all)) }
+    ensures refused { IfShown (state S.Store conn.old) (state S.Store conn.new) (λ all. IfErr result (λ e. IsRefusal e → Explains (Resuming job.now (F.answer (arc_value function.now)) number items.now (OfFile (state S.Store conn.old) (state S.Store conn.new)) all) e × Keeps (state S.Store conn.new) all)) }
+    ensures cause { IfShown (state S.Store conn.old) (state S.Store conn.new) (λ all. IfErr result (Explains (Resuming job.now (F.answer (arc_value function.now)) number items.now (OfFile (state S.Store conn.old) (state S.Store conn.new)) all))) }
     ensures counts { (state S.Store conn.old).faults ≤ (state S.Store conn.new).faults }
     ensures shut { HasCleanDisk (state S.Store conn.new) → IsTrue (state S.Store conn.old).is_open
         → IsTrue (state S.Store conn.new).is_open ⊎ MoreFaults (state S.Store conn.old).faults (state S.Store conn.new).faults }

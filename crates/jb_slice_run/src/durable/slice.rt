@@ -13,23 +13,22 @@ ghost use Rattle.jb_slice_file.specs.Rows.{Has};
 ghost use Rattle.jb_slices.specs.Function.{all_results, faults_from};
 ghost use Rattle.jb_slices.specs.Job.{first_of};
 ghost use Rattle.jb_slices.specs.Passing.{SlicePasses};
-ghost use Rattle.jb_slice_run.specs.Causes.{IsFirstOwn};
+ghost use Rattle.jb_slice_run.specs.Causes.{Explains, IsFirstOwn, OfFile, Resuming, RunningSlice};
 ghost use Rattle.jb_slice_run.specs.Held.{faults_in};
 ghost use Rattle.jb_slice_run.specs.Jobs.{kept_stamps, own_header};
+ghost use Rattle.jb_slice_run.specs.Refusals.{IsRefusal};
 ghost use Rattle.jb_slice_run.specs.Work.{HaveRowsEnded};
 ghost use Rattle.jb_step.specs.Statuses.{status_of};
 ghost use Rattle.jb_slice_run.specs.durable.Ends.{AreFailuresOf, HasEnded};
-ghost use Rattle.jb_slice_run.specs.durable.Refusals.{IsCauseOfNoEnd, IsRefusal, IsUntaken};
 ghost use Rattle.jb_slice_run.specs.durable.Work.{IfResumed, IfShown, IsWhole, SoFar};
 
 use crate::durable::end::{SliceEnd, ended};
-use crate::durable::error::DurableError;
 use crate::durable::intervals::run;
 use crate::durable::listener::ProgressListener;
 use crate::durable::loop_end::LoopEnd;
 use crate::durable::resumed::resumed;
 use crate::durable::seen::is_whole;
-use crate::{Pace, SliceJob, bytes_identify_checkpoints, rows_are_progress};
+use crate::{Pace, SliceError, SliceJob, bytes_identify_checkpoints, rows_are_progress};
 use jb_base::PackedList;
 use jb_rows::RowFunction;
 use jb_slices::{failures_are_named, slices_follow_the_rules, slices_have_results};
@@ -45,8 +44,8 @@ use std::thread::Threads;
 /// isn't whole and hasn't failed, it ends there, and a next call resumes it.
 ///
 /// # Errors
-/// `Run` with why the slice isn't resumed, and then no checkpoint is written, or with why an interval broke off. `Store` with what is wrong with
-/// the file. `TooMany` if there are 4,294,967,295 checkpoints. `Stopped` if the listener stopped it.
+/// As `resume` if the slice isn't resumed, and then no checkpoint is written. As `ResumableRun::next_checkpoint` if an interval has no checkpoint.
+/// `Store` with what is wrong with the file. `TooMany` if there are 4,294,967,295 checkpoints. `Stopped` if the listener stopped it.
 pub fn run_slice<
     F: RowFunction + Drop + 'static,
     P: Pace + Drop,
@@ -63,7 +62,7 @@ pub fn run_slice<
     items: &PackedList,
     pace: P,
     listener: O,
-) -> Result<SliceEnd, DurableError>
+) -> Result<SliceEnd, SliceError>
     // The connection holds the slice as it ended.
     ensures ends { IfResumed job.now (F.answer (arc_value function.now)) number items.now (state S.Store conn.old) (state S.Store conn.new) (λ w all. IfOk result (λ end. (now : List CheckpointBytes) × Keeps (state S.Store conn.new) now × HasEnded w end now)) }
 
@@ -90,8 +89,8 @@ pub fn run_slice<
     // It has an end only if its header is our own. A refusal of the stored checkpoints has its cause, and leaves them as they are. Each other
     // error has its cause too.
     ensures own { IfShown (state S.Store conn.old) (state S.Store conn.new) (λ all. OnOk result (IsFirstOwn (own_header job.now number items.now) (kept_stamps job.now) all)) }
-    ensures refused { IfShown (state S.Store conn.old) (state S.Store conn.new) (λ all. IfErr result (λ e. IsRefusal e → IsUntaken job.now (F.answer (arc_value function.now)) number items.now (state S.Store conn.old) (state S.Store conn.new) all e × Keeps (state S.Store conn.new) all)) }
-    ensures cause { IfResumed job.now (F.answer (arc_value function.now)) number items.now (state S.Store conn.old) (state S.Store conn.new) (λ w all. IfErr result (IsCauseOfNoEnd job.now w (state S.Store conn.old) (state S.Store conn.new) all)) }
+    ensures refused { IfShown (state S.Store conn.old) (state S.Store conn.new) (λ all. IfErr result (λ e. IsRefusal e → Explains (Resuming job.now (F.answer (arc_value function.now)) number items.now (OfFile (state S.Store conn.old) (state S.Store conn.new)) all) e × Keeps (state S.Store conn.new) all)) }
+    ensures cause { IfResumed job.now (F.answer (arc_value function.now)) number items.now (state S.Store conn.old) (state S.Store conn.new) (λ w all. IfErr result (Explains (RunningSlice job.now w (state S.Store conn.old) (state S.Store conn.new) all))) }
 
     // A disk that is clean after the call was clean before it.
     ensures clean { doubt (state S.Store conn.old).is_clean ≤ doubt (state S.Store conn.new).is_clean }
@@ -134,7 +133,7 @@ pub fn collect_slice<F: RowFunction + Drop, S: Alter>(
     number: u64,
     function: &Arc<F, Global>,
     items: &PackedList,
-) -> Result<Option<SliceEnd>, DurableError>
+) -> Result<Option<SliceEnd>, SliceError>
     ensures ends { IfResumed job.now (F.answer (arc_value function.now)) number items.now (state S.Store conn.old) (state S.Store conn.new) (λ w all. IfOk result (λ found. IfSome found (λ end. Keeps (state S.Store conn.new) all × HasEnded w end all))) }
     ensures all { IfResumed job.now (F.answer (arc_value function.now)) number items.now (state S.Store conn.old) (state S.Store conn.new) (λ w all. IfOk result (λ found. IfSome found (λ end. joined end.results.items ≡ all_results w.f w.items))) }
     ensures skips { IfResumed job.now (F.answer (arc_value function.now)) number items.now (state S.Store conn.old) (state S.Store conn.new) (λ w all. IfOk result (λ found. IfSome found (λ end. faults_in end.skips.items ≡ faults_from w.f (first_of w.job w.number) w.items))) }
@@ -144,8 +143,8 @@ pub fn collect_slice<F: RowFunction + Drop, S: Alter>(
     // Only a slice that isn't whole gives `None`. A slice without items may have its header alone.
     ensures none { IfResumed job.now (F.answer (arc_value function.now)) number items.now (state S.Store conn.old) (state S.Store conn.new) (λ w all. IsWhole w all → 2 ≤ length all → IfOk result (λ found. found ≡ None → ⊥)) }
     ensures own { IfShown (state S.Store conn.old) (state S.Store conn.new) (λ all. OnOk result (IsFirstOwn (own_header job.now number items.now) (kept_stamps job.now) all)) }
-    ensures refused { IfShown (state S.Store conn.old) (state S.Store conn.new) (λ all. IfErr result (λ e. IsRefusal e → IsUntaken job.now (F.answer (arc_value function.now)) number items.now (state S.Store conn.old) (state S.Store conn.new) all e × Keeps (state S.Store conn.new) all)) }
-    ensures cause { IfResumed job.now (F.answer (arc_value function.now)) number items.now (state S.Store conn.old) (state S.Store conn.new) (λ w all. IfErr result (IsCauseOfNoEnd job.now w (state S.Store conn.old) (state S.Store conn.new) all)) }
+    ensures refused { IfShown (state S.Store conn.old) (state S.Store conn.new) (λ all. IfErr result (λ e. IsRefusal e → Explains (Resuming job.now (F.answer (arc_value function.now)) number items.now (OfFile (state S.Store conn.old) (state S.Store conn.new)) all) e × Keeps (state S.Store conn.new) all)) }
+    ensures cause { IfResumed job.now (F.answer (arc_value function.now)) number items.now (state S.Store conn.old) (state S.Store conn.new) (λ w all. IfErr result (Explains (RunningSlice job.now w (state S.Store conn.old) (state S.Store conn.new) all))) }
     ensures clean { doubt (state S.Store conn.old).is_clean ≤ doubt (state S.Store conn.new).is_clean }
 
     // At any moment a crash leaves the checkpoints that the database had.

@@ -1,7 +1,6 @@
 use Rattle.std.proofs.Common.{◌≡◌, ◌∙◌, ap, subst, codes, option_map, IfOk}
 use Rattle.clap.specs.Words.{App, app_of, with_rule}
-use Rattle.jb_csv_job.specs.CommandLine.{flag_rule, folder_rule, many_rule, option_rule, with_own}
-use Rattle.jb_csv_job.specs.declared.asked.OwnOption.{OwnOption}
+use Rattle.jb_csv_job.specs.{CommandLine.{flag_rule, folder_rule, many_rule, option_rule, with_own}, declared.asked.OwnOption.{OwnOption}}
 use Rattle.jb_csv_job.proofs.command.command.Goals as goal
 
 pub returns : goal.returns

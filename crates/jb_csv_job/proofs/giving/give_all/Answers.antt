@@ -1,7 +1,5 @@
-use Rattle.std.proofs.Common.{◌≡◌, ◌∙◌, ◌++◌, ◌+◌, suc, ap, append_assoc, arith, subst, sym, take}
-use Rattle.std.proofs.lemmas.List.{append-nil, take_all}
+use Rattle.std.{proofs.Common.{◌≡◌, ◌∙◌, ◌++◌, ◌+◌, ap, subst, sym, take}, specs.Prelude.{slice_index_or}, proofs.lemmas.List.{append-nil, flat_map_more, take_all, take_more}}
 use Rattle.jb_records.specs.PartitionResults.{joined}
-use Rattle.jb_csv_job.proofs.Joining.{joined-more}
 use Rattle.jb_csv_job.proofs.giving.give_all.Goals as goal
 
 pub loop-share-init : goal.loop-share-init
@@ -11,11 +9,10 @@ pub loop-share-preserved : goal.loop-share-preserved
 loop-share-preserved g c start before took =
     let partition_results = c.args.partition_results.now in
     let i = c.loop-share.share-index in
-    let n : suc i ≡ i + 1 = omega arith in
     let same : (before ++ joined (take i partition_results)) ++ c.share-item.result ≡ before ++ joined (take (i + 1) partition_results) =
-    append_assoc before (joined (take i partition_results)) c.share-item.result ∙ ap (λ xs. before ++ (joined (take i partition_results) ++ xs)) c.share-item.is
-    ∙ ap (λ xs. before ++ xs) (sym (joined-more partition_results i c.share-item.result c.loop-share-test.true))
-    ∙ ap (λ k. before ++ joined (take k partition_results)) n in
+    ap (λ share. (before ++ joined (take i partition_results)) ++ share) c.share-item.is
+    ∙ flat_map_more (λ share. share) before (take i partition_results) (slice_index_or partition_results i c.share-item.result)
+    ∙ ap (λ shares. before ++ joined shares) (sym (take_more partition_results i c.share-item.result c.loop-share-test.true)) in
     subst (g.N.Sink.took start c.take.new.self) same (c.in_ok-take.ensures.taken start (before ++ joined (take i partition_results)) (c.loop-share.invariant start before took))
 
 pub returns-clause-taken : goal.returns-clause-taken

@@ -1,5 +1,4 @@
-use Rattle.std.proofs.Common.{inl}
-use Rattle.std.proofs.Math.Logic.{∥∥₁_map}
+use Rattle.std.proofs.{Common.{inl}, Math.Logic.{∥∥₁_map}}
 use Rattle.sqlite.specs.Files.{HoldsDatabase}
 use Rattle.sqlite_pool.proofs.ResealLemmas.{adopts_of}
 use Rattle.sqlite_trees.specs.Tree.{Trees}

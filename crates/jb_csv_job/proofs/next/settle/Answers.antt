@@ -1,8 +1,6 @@
 use Rattle.std.proofs.Common.{◌++◌, refl, subst, true}
 use Rattle.jb_records.specs.PartitionResults.{joined}
-use Rattle.jb_csv_job.specs.Job.{job_record}
-use Rattle.jb_csv_job.specs.Tasks.{given_by}
-use Rattle.jb_csv_job.proofs.Doing.{ended-by, given-away, kept-back, yes-or-no}
+use Rattle.jb_csv_job.{specs.Job.{job_record}, specs.Tasks.{given_by}, proofs.Doing.{ended-by, given-away, kept-back, yes-or-no}}
 use Rattle.jb_csv_job.proofs.next.settle.Goals as goal
 
 pub returns-in_ok-give-in-Gives-clause-goes : goal.returns-in_ok-give-in-Gives-clause-goes

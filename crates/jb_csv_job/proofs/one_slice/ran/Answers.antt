@@ -1,4 +1,3 @@
-use Rattle.std.proofs.Common.{}
 use Rattle.std.specs.Arc.{arc_value}
 use Rattle.jb_csv_job.proofs.Ending.{left-own, slice-ends}
 use Rattle.jb_csv_job.proofs.one_slice.ran.Goals as goal

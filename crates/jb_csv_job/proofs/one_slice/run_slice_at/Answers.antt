@@ -1,6 +1,4 @@
-use Rattle.std.proofs.Common.{}
-use Rattle.std.proofs.Math.Logic.{∥∥₁_map}
-use Rattle.std.specs.Arc.{arc_value}
+use Rattle.std.{proofs.Math.Logic.{∥∥₁_map}, specs.Arc.{arc_value}}
 use Rattle.sqlite.specs.Files.{file_state}
 use Rattle.sqlite_wal.specs.Files.{image_at}
 use Rattle.jb_slice_file.proofs.Clean.{clean_before}

@@ -1,7 +1,6 @@
 use Rattle.std.proofs.Common.{take}
 use Rattle.jb_slices.specs.Job.{first_of}
-use Rattle.jb_csv_job.specs.Job.{job_record}
-use Rattle.jb_csv_job.proofs.Taking.{slice-read}
+use Rattle.jb_csv_job.{specs.Job.{job_record}, proofs.Taking.{slice-read}}
 use Rattle.jb_csv_job.proofs.reading.read_slice.Goals as goal
 
 pub returns-clause-read : goal.returns-clause-read

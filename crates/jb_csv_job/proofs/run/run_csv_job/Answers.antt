@@ -1,124 +1,96 @@
-use Rattle.std.proofs.Common.{◌⊎◌, suc, [], map, subst, sym, take, Some}
-use Rattle.std.specs.Io.KnownBytes.{Keeps}
-use Rattle.std.specs.Prelude.{IfSome}
-use Rattle.jb_rows.proofs.Headers.{copied-is}
-use Rattle.jb_rows.proofs.Lines.{known}
-use Rattle.jb_rows.specs.Fields.{fields_in, packed}
-use Rattle.jb_rows.specs.Streams.{HasGivenRows, kept_header}
-use Rattle.jb_rows.specs.Texts.{copied_by}
-use Rattle.jb_slices.specs.Job.{first_of}
-use Rattle.jb_csv_job.specs.Done.{HasSkipped, IsByRules, IsInput}
-use Rattle.jb_csv_job.specs.Job.{job_record}
-use Rattle.jb_csv_job.specs.SliceFiles.{LeavesSlice}
-use Rattle.jb_csv_job.specs.Sinks.{HasTaken, lines_written}
-use Rattle.jb_csv_job.specs.Skipped.{AreRowsFor, AreRowsOfSlices, HasListed, skipped_header, task_faults}
-use Rattle.jb_csv_job.specs.declared.sink.CsvSink.{CsvSink}
-use Rattle.jb_csv_job.proofs.Carrying.{known-up}
-use Rattle.jb_csv_job.proofs.Listing.{listed-then}
-use Rattle.jb_csv_job.proofs.Writing.{first-packed, list-written, written}
+use Rattle.std.{proofs.Common.{◌≡◌, ◌++◌, List, [], map, subst, take}, specs.Io.KnownBytes.{Appends}, specs.Prelude.{IsTrue}}
+use Rattle.jb_rows.{proofs.Headers.{copied-is}, specs.Answers.{all_results}, specs.Fields.{Fields, packed}, specs.Streams.{csv_rows, kept_header}, specs.Texts.{copied_by}}
+use Rattle.jb_slices.specs.Function as slices
+use Rattle.jb_slices.specs.{Job.{first_of}, Slice.{Functions}}
+use Rattle.jb_csv_job.specs.{Done.{HasSkipped, IsByRules, IsDoneSoFar, IsJobDone}, Job.{JobRecord, job_record}, SliceFiles.{CanResumeJob, LeavesJob}, Sinks.{HasTaken}}
+use Rattle.jb_csv_job.{specs.Skipped.{IfListed, IsListWritten}, specs.Tasks.{given_by}, proofs.Carrying.{of-stream}, proofs.Writing.{first-packed, list-whole, written}}
+use Rattle.jb_csv_job.proofs.run.run_csv_job.Goals.{After-run_slices, In_ok-to}
 use Rattle.jb_csv_job.proofs.run.run_csv_job.Goals as goal
 
+-- ---- what is written
+
+module _ (g : _) (c : In_ok-to g) where
+  abbrev job : JobRecord
+  job = job_record c.args.job.now c.args.asked.now (g.F.RowFunction.answer c.args.function)
+
+  abbrev header : List Fields
+  header = copied_by job.options.header (kept_header c.in_ok-reader.reader)
+
+  appended : (records : List Fields) → HasTaken g.W.Write.contents c.write_header.new.self c.run_slices.new.sink (given_by job.task (slices.all_results job.function (map packed records)))
+      → Appends (g.W.Write.contents c.args.to) (g.W.Write.contents c.in_ok-to.to) (csv_rows job.options.delimiter (given_by job.task (header ++ all_results job.function records)))
+  appended records taken =
+      written g.W.Write.contents job.options.delimiter job.task job.function c.args.to c.in_ok-to.to c.new-sink.result c.write_header.new.self c.run_slices.new.sink header records
+      c.new-sink.ensures.nothing c.new-sink.ensures.between c.in_ok-write_header.ensures taken c.in_ok-to.ensures
+
 pub returns-clause-all : goal.returns-clause-all
-returns-clause-all g c clean functions up zero =
-    let job = job_record c.args.job.now c.args.asked.now (g.F.RowFunction.answer c.args.function) in
-    let from = g.R.Read.remaining c.args.from in
-    let given = known from (λ t. HasGivenRows job.options g.R.Read.remaining c.in_ok-reader.reader t []) up.bytes up.known c.in_ok-reader.ensures.given in
-    let t = c.in_ok-end.ensures.all clean up.bytes given functions (known-up job functions (g.R.Read.remaining c.args.from) g.H.Stored.log g.H.Stored.db up) zero in
-    let header = copied_by job.options.header (kept_header c.in_ok-reader.reader) in
-    record {
-      header = header;
+returns-clause-all g c clean =
+    let here = (goal.at.returns-clause-all g c).In_ok-to in
+    of-stream (job g here) g.R.Read.remaining c.in_ok-reader.reader g.H.Stored.log g.H.Stored.db (g.R.Read.remaining c.args.from)
+    (λ functions text. c.in_ok-end.end.status ≡ 0 → IsJobDone (job g here) text (g.W.Write.contents c.args.to) (g.W.Write.contents c.in_ok-to.to)) c.in_ok-reader.ensures.given (λ bytes given functions up zero.
+    (let t = c.in_ok-end.ensures.all clean bytes given functions up zero in record {
+      header = header g here;
       records = t.records;
-      read = subst (λ o. IsInput job o header t.records) (sym up.known) (copied-is job.options g.R.Read.remaining c.in_ok-reader.reader up.bytes [] given, t.read);
-      written = written g.W.Write.contents job.options.delimiter job.task job.function c.args.to c.in_ok-to.to c.new-sink.result c.write_header.new.self c.run_slices.new.sink header t.records
-          c.new-sink.ensures.nothing c.new-sink.ensures.between c.in_ok-write_header.ensures t.taken c.in_ok-to.ensures;
-    }
+      read = (copied-is (job g here).options g.R.Read.remaining c.in_ok-reader.reader bytes [] given, t.read);
+      written = appended g here t.records t.taken;
+    }))
 
 pub returns-clause-so_far : goal.returns-clause-so_far
-returns-clause-so_far g c clean functions up =
-    let job = job_record c.args.job.now c.args.asked.now (g.F.RowFunction.answer c.args.function) in
-    let from = g.R.Read.remaining c.args.from in
-    let given = known from (λ t. HasGivenRows job.options g.R.Read.remaining c.in_ok-reader.reader t []) up.bytes up.known c.in_ok-reader.ensures.given in
-    let t = c.in_ok-end.ensures.so_far clean up.bytes given functions (known-up job functions (g.R.Read.remaining c.args.from) g.H.Stored.log g.H.Stored.db up) in
-    let header = copied_by job.options.header (kept_header c.in_ok-reader.reader) in
-    let first = take (first_of job.job t.count) t.records in
-    let taken = subst (HasTaken g.W.Write.contents c.write_header.new.self c.run_slices.new.sink) (first-packed job.task job.function (first_of job.job t.count) t.records) t.taken in
-    record {
-      header = header;
+returns-clause-so_far g c clean =
+    let here = (goal.at.returns-clause-so_far g c).In_ok-to in
+    let job = job g here in
+    of-stream job g.R.Read.remaining c.in_ok-reader.reader g.H.Stored.log g.H.Stored.db (g.R.Read.remaining c.args.from)
+    (λ functions text. IsDoneSoFar job text (g.W.Write.contents c.args.to) (g.W.Write.contents c.in_ok-to.to)) c.in_ok-reader.ensures.given (λ bytes given functions up.
+    (let t = c.in_ok-end.ensures.so_far clean bytes given functions up in record {
+      header = header g here;
       records = t.records;
       count = t.count;
-      read = subst (λ o. IsInput job o header t.records) (sym up.known) (copied-is job.options g.R.Read.remaining c.in_ok-reader.reader up.bytes [] given, t.read);
-      written = written g.W.Write.contents job.options.delimiter job.task job.function c.args.to c.in_ok-to.to c.new-sink.result c.write_header.new.self c.run_slices.new.sink header first
-          c.new-sink.ensures.nothing c.new-sink.ensures.between c.in_ok-write_header.ensures taken c.in_ok-to.ensures;
-    }
+      read = (copied-is job.options g.R.Read.remaining c.in_ok-reader.reader bytes [] given, t.read);
+      written = appended g here (take (first_of job.job t.count) t.records)
+          (subst (HasTaken g.W.Write.contents c.write_header.new.self c.run_slices.new.sink) (first-packed job.task job.function (first_of job.job t.count) t.records) t.taken);
+    }))
 
 pub returns-clause-listed : goal.returns-clause-listed
-returns-clause-listed g c clean functions up =
+returns-clause-listed g c clean =
     let job = job_record c.args.job.now c.args.asked.now (g.F.RowFunction.answer c.args.function) in
-    let from = g.R.Read.remaining c.args.from in
-    let given = known from (λ t. HasGivenRows job.options g.R.Read.remaining c.in_ok-reader.reader t []) up.bytes up.known c.in_ok-reader.ensures.given in
-    let listed = c.in_ok-end.ensures.listed clean up.bytes given functions (known-up job functions (g.R.Read.remaining c.args.from) g.H.Stored.log g.H.Stored.db up) in
-    let header = copied_by job.options.header (kept_header c.in_ok-reader.reader) in
-    let read = copied-is job.options g.R.Read.remaining c.in_ok-reader.reader up.bytes [] given in
-    listed-then c.args.list c.in_ok-listing.listing c.in_ok-listed.listed _ _ _ c.in_ok-listing.ensures
-    (listed-then c.in_ok-listing.listing c.run_slices.new.list c.in_ok-listed.listed _ _ (λ begun done. (HasListed job (Some up.bytes) (λ rows. (ended : CsvSink g.row.S.Denot) × HasTaken g.S.Write.contents begun ended rows × Keeps (lines_written g.S.Write.contents ended) (g.S.Write.contents done)) c.in_ok-end.end.status c.in_ok-end.end.skips))
-    listed c.in_ok-listed.ensures (λ begun ended done h kept. record {
-      records = h.records;
-      read = h.read;
-      rows = h.rows;
-      last = h.last;
-      taken = (ended, h.taken, kept);
-      slices = h.slices;
-      ended = h.ended;
-      faults = h.faults;
-    }))
-    (λ old begun done first h. record {
-      header = header;
-      records = h.records;
-      read = subst (λ o. IsInput job o header h.records) (sym up.known) (read, h.read);
-      rows = h.rows;
-      last = h.last;
-      written = list-written g.S.Write.contents job.options.delimiter old done begun h.taken.0 (map skipped_header header) h.rows first h.taken.1 h.taken.2;
-      slices = subst (λ o. IfSome o (λ bytes. AreRowsOfSlices job bytes h.records (suc h.last) h.rows)) (sym up.known) h.slices;
-      ended = h.ended;
-      faults = λ zero. subst (λ o. IfSome o (λ bytes. AreRowsFor job.options bytes job.job.classes.names h.records (task_faults job.job job.task job.function (map packed h.records)) (map fields_in h.rows))) (sym up.known) (h.faults zero);
-    })
+    of-stream job g.R.Read.remaining c.in_ok-reader.reader g.H.Stored.log g.H.Stored.db (g.R.Read.remaining c.args.from)
+    (λ functions text. IfListed c.args.list c.in_ok-listed.listed (λ old new. IsListWritten job text (g.S.Write.contents old) (g.S.Write.contents new) c.in_ok-end.end.status c.in_ok-end.end.skips))
+    c.in_ok-reader.ensures.given (λ bytes given functions up.
+    list-whole g.S.Write.contents job bytes (copied_by job.options.header (kept_header c.in_ok-reader.reader)) c.in_ok-end.end.status c.in_ok-end.end.skips c.args.list c.in_ok-listing.listing
+    c.run_slices.new.list c.in_ok-listed.listed (copied-is job.options g.R.Read.remaining c.in_ok-reader.reader bytes [] given) c.in_ok-listing.ensures
+    (c.in_ok-end.ensures.listed clean bytes given functions up) c.in_ok-listed.ensures)
+
+-- ---- the status
 
 pub returns-clause-by_rules : goal.returns-clause-by_rules
-returns-clause-by_rules g c clean functions up =
+returns-clause-by_rules g c clean =
     let job = job_record c.args.job.now c.args.asked.now (g.F.RowFunction.answer c.args.function) in
-    let given = known (g.R.Read.remaining c.args.from) (λ t. HasGivenRows job.options g.R.Read.remaining c.in_ok-reader.reader t []) up.bytes up.known c.in_ok-reader.ensures.given in
-    subst (λ o. IsByRules job o c.in_ok-end.end.status) (sym up.known) (c.in_ok-end.ensures.by_rules clean up.bytes given functions (known-up job functions (g.R.Read.remaining c.args.from) g.H.Stored.log g.H.Stored.db up))
+    of-stream job g.R.Read.remaining c.in_ok-reader.reader g.H.Stored.log g.H.Stored.db (g.R.Read.remaining c.args.from) (λ functions text. IsByRules job text c.in_ok-end.end.status)
+    c.in_ok-reader.ensures.given (c.in_ok-end.ensures.by_rules clean)
 
 pub returns-clause-skips : goal.returns-clause-skips
-returns-clause-skips g c clean functions up zero =
+returns-clause-skips g c clean =
     let job = job_record c.args.job.now c.args.asked.now (g.F.RowFunction.answer c.args.function) in
-    let given = known (g.R.Read.remaining c.args.from) (λ t. HasGivenRows job.options g.R.Read.remaining c.in_ok-reader.reader t []) up.bytes up.known c.in_ok-reader.ensures.given in
-    subst (λ o. HasSkipped job o c.in_ok-end.end.skips) (sym up.known) (c.in_ok-end.ensures.skips clean up.bytes given functions (known-up job functions (g.R.Read.remaining c.args.from) g.H.Stored.log g.H.Stored.db up) zero)
+    of-stream job g.R.Read.remaining c.in_ok-reader.reader g.H.Stored.log g.H.Stored.db (g.R.Read.remaining c.args.from)
+    (λ functions text. c.in_ok-end.end.status ≡ 0 → HasSkipped job text c.in_ok-end.end.skips) c.in_ok-reader.ensures.given (c.in_ok-end.ensures.skips clean)
+
+-- ---- what a crash leaves
+
+left : (g : _) (c : After-run_slices g) → IsTrue (g.K.Keeper.are_clean c.run_slices.new.keeper) → (functions : Functions)
+    → CanResumeJob (job_record c.args.job.now c.args.asked.now (g.F.RowFunction.answer c.args.function)) functions (g.R.Read.remaining c.args.from) g.H.Stored.log g.H.Stored.db
+    → LeavesJob (job_record c.args.job.now c.args.asked.now (g.F.RowFunction.answer c.args.function)) functions (g.R.Read.remaining c.args.from) (g.K.Keeper.may_leave c.args.keeper.now) (g.K.Keeper.may_leave c.run_slices.new.keeper)
+left g c clean =
+    let job = job_record c.args.job.now c.args.asked.now (g.F.RowFunction.answer c.args.function) in
+    of-stream job g.R.Read.remaining c.in_ok-reader.reader g.H.Stored.log g.H.Stored.db (g.R.Read.remaining c.args.from)
+    (λ functions text. LeavesJob job functions text (g.K.Keeper.may_leave c.args.keeper.now) (g.K.Keeper.may_leave c.run_slices.new.keeper)) c.in_ok-reader.ensures.given (c.run_slices.ensures.left clean)
 
 pub returns-clause-left : goal.returns-clause-left
-returns-clause-left g c clean functions up k items image may =
-    let job = job_record c.args.job.now c.args.asked.now (g.F.RowFunction.answer c.args.function) in
-    let given = known (g.R.Read.remaining c.args.from) (λ t. HasGivenRows job.options g.R.Read.remaining c.in_ok-reader.reader t []) up.bytes up.known c.in_ok-reader.ensures.given in
-    subst (λ o. g.K.Keeper.may_leave c.args.keeper.now k items image ⊎ LeavesSlice job functions o k image) (sym up.known)
-    (c.run_slices.ensures.left clean up.bytes given functions (known-up job functions (g.R.Read.remaining c.args.from) g.H.Stored.log g.H.Stored.db up) k items image may)
+returns-clause-left g c = left g (goal.at.returns-clause-left g c).After-run_slices
 
 pub returns-in_err-end-clause-left : goal.returns-in_err-end-clause-left
-returns-in_err-end-clause-left g c clean functions up k items image may =
-    let job = job_record c.args.job.now c.args.asked.now (g.F.RowFunction.answer c.args.function) in
-    let given = known (g.R.Read.remaining c.args.from) (λ t. HasGivenRows job.options g.R.Read.remaining c.in_ok-reader.reader t []) up.bytes up.known c.in_ok-reader.ensures.given in
-    subst (λ o. g.K.Keeper.may_leave c.args.keeper.now k items image ⊎ LeavesSlice job functions o k image) (sym up.known)
-    (c.run_slices.ensures.left clean up.bytes given functions (known-up job functions (g.R.Read.remaining c.args.from) g.H.Stored.log g.H.Stored.db up) k items image may)
+returns-in_err-end-clause-left g c = left g (goal.at.returns-in_err-end-clause-left g c).After-run_slices
 
 pub returns-in_err-to-clause-left : goal.returns-in_err-to-clause-left
-returns-in_err-to-clause-left g c clean functions up k items image may =
-    let job = job_record c.args.job.now c.args.asked.now (g.F.RowFunction.answer c.args.function) in
-    let given = known (g.R.Read.remaining c.args.from) (λ t. HasGivenRows job.options g.R.Read.remaining c.in_ok-reader.reader t []) up.bytes up.known c.in_ok-reader.ensures.given in
-    subst (λ o. g.K.Keeper.may_leave c.args.keeper.now k items image ⊎ LeavesSlice job functions o k image) (sym up.known)
-    (c.run_slices.ensures.left clean up.bytes given functions (known-up job functions (g.R.Read.remaining c.args.from) g.H.Stored.log g.H.Stored.db up) k items image may)
+returns-in_err-to-clause-left g c = left g (goal.at.returns-in_err-to-clause-left g c).After-run_slices
 
 pub returns-in_err-listed-clause-left : goal.returns-in_err-listed-clause-left
-returns-in_err-listed-clause-left g c clean functions up k items image may =
-    let job = job_record c.args.job.now c.args.asked.now (g.F.RowFunction.answer c.args.function) in
-    let given = known (g.R.Read.remaining c.args.from) (λ t. HasGivenRows job.options g.R.Read.remaining c.in_ok-reader.reader t []) up.bytes up.known c.in_ok-reader.ensures.given in
-    subst (λ o. g.K.Keeper.may_leave c.args.keeper.now k items image ⊎ LeavesSlice job functions o k image) (sym up.known)
-    (c.run_slices.ensures.left clean up.bytes given functions (known-up job functions (g.R.Read.remaining c.args.from) g.H.Stored.log g.H.Stored.db up) k items image may)
+returns-in_err-listed-clause-left g c = left g (goal.at.returns-in_err-listed-clause-left g c).After-run_slices

@@ -1,10 +1,6 @@
-use Rattle.std.proofs.Common.{◌∙◌, [], ap, map, subst, sym, Some}
-use Rattle.jb_rows.specs.Streams.{csv_rows, kept_header}
-use Rattle.jb_rows.specs.Texts.{copied_by}
-use Rattle.std.specs.Io.KnownBytes.{Appends}
-use Rattle.jb_csv_job.specs.Sinks.{IsBetweenLines, lines_written, taken_none}
-use Rattle.jb_csv_job.specs.Skipped.{IfListed, skipped_header}
-use Rattle.jb_csv_job.proofs.Writing.{list-begun}
+use Rattle.std.{proofs.Common.{◌∙◌, [], ap, map, subst, sym, Some}, specs.Io.KnownBytes.{Appends}}
+use Rattle.jb_rows.specs.{Streams.{csv_rows, kept_header}, Texts.{copied_by}}
+use Rattle.jb_csv_job.{specs.Sinks.{IsBetweenLines, lines_written, taken_none}, specs.Skipped.{IfListed, skipped_header}, proofs.Writing.{list-begun}}
 use Rattle.jb_csv_job.proofs.skipped.begin_list.Goals as goal
 
 pub returns-in-Ok : goal.returns-in-Ok

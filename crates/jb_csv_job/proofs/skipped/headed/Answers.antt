@@ -1,8 +1,6 @@
-use Rattle.std.proofs.Common.{◌≡◌, ◌∙◌, ◌<◌, ◌≤◌, ◌++◌, [], ap, arith, length, map}
-use Rattle.std.proofs.lemmas.List.{take_all}
+use Rattle.std.proofs.{Common.{◌≡◌, ◌∙◌, ◌<◌, ◌≤◌, ◌++◌, [], ap, arith, length, map}, lemmas.List.{take_all}}
 use Rattle.jb_rows.specs.Fields.{fields_in}
-use Rattle.jb_csv_job.specs.Skipped.{skipped_header}
-use Rattle.jb_csv_job.proofs.Skipping.{fields-after, one-line}
+use Rattle.jb_csv_job.{specs.Skipped.{skipped_header}, proofs.Skipping.{fields-after, one-line}}
 use Rattle.jb_csv_job.proofs.skipped.headed.Goals as goal
 
 pub loop-index-preserved : goal.loop-index-preserved

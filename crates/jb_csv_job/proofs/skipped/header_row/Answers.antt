@@ -1,9 +1,6 @@
 use Rattle.std.proofs.Common.{◌≡◌, ◌∙◌, ap, map, rules, subst, sym, IfOk}
-use Rattle.jb_rows.specs.Fields.{fields_in}
-use Rattle.jb_rows.specs.Texts.{copied_by}
-use Rattle.jb_rows.specs.declared.header.Header.TheVariants.{Copied}
-use Rattle.jb_csv_job.specs.Skipped.{skipped_header}
-use Rattle.jb_csv_job.proofs.Skipping.{headers-by-fields}
+use Rattle.jb_rows.specs.{Fields.{fields_in}, Texts.{copied_by}, declared.header.Header.TheVariants.{Copied}}
+use Rattle.jb_csv_job.{specs.Skipped.{skipped_header}, proofs.Skipping.{headers-by-fields}}
 use Rattle.jb_csv_job.proofs.skipped.header_row.Goals as goal
 
 pub returns-in-Copied : goal.returns-in-Copied

@@ -1,7 +1,5 @@
 use Rattle.std.proofs.Common.{◌∙◌, ◌*◌, ◌++◌, ℕ, List, ap, map, subst, sym, Some}
-use Rattle.jb_csv_job.specs.Job.{identity_of}
-use Rattle.jb_csv_job.specs.Skipped.{IfListed, IsSliceListed, skipped_row}
-use Rattle.jb_csv_job.proofs.Listing.{rows-named}
+use Rattle.jb_csv_job.{specs.Job.{identity_of}, specs.Skipped.{IfListed, IsSliceListed, skipped_row}, proofs.Listing.{rows-named}}
 use Rattle.jb_csv_job.proofs.skipped.list_slice.Goals as goal
 
 pub returns-in-Ok : goal.returns-in-Ok

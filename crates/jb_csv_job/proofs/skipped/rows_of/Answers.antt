@@ -1,9 +1,7 @@
 use Rattle.std.proofs.Common.{◌≡◌, ◌∙◌, ◌++◌, ◌∷◌, ap, decimal}
 use Rattle.jb_answers.specs.Classes.{class_name}
 use Rattle.jb_rows.specs.Fields.{fields_in}
-use Rattle.jb_csv_job.specs.Reports.{line_at}
-use Rattle.jb_csv_job.specs.Skipped.{skipped_row}
-use Rattle.jb_csv_job.proofs.Skipping.{fields-after, one-line}
+use Rattle.jb_csv_job.{specs.Reports.{line_at}, specs.Skipped.{skipped_row}, proofs.Skipping.{fields-after, one-line}}
 use Rattle.jb_csv_job.proofs.skipped.rows_of.Goals as goal
 
 pub loop-fault-preserved : goal.loop-fault-preserved

@@ -1,9 +1,6 @@
 use Rattle.std.proofs.Common.{◌≡◌, ◌∙◌, inl, inr, map, option_map, refl, subst, sym, true, []}
-use Rattle.clap.specs.Words.{App, HasKind, HasMatchesOf, fault_of, is_simple_and_free, kind_of}
-use Rattle.clap.specs.declared.error.kind.ErrorKind.TheVariants.{DisplayHelp, DisplayVersion}
-use Rattle.jb_csv_job.specs.CommandLine.{IsLine, job_app}
-use Rattle.jb_csv_job.specs.Matched.{all_in, first_in}
-use Rattle.jb_csv_job.specs.declared.asked.OwnOption.{OwnOption}
+use Rattle.clap.specs.{Words.{App, HasKind, HasMatchesOf, fault_of, is_simple_and_free, kind_of}, declared.error.kind.ErrorKind.TheVariants.{DisplayHelp, DisplayVersion}}
+use Rattle.jb_csv_job.specs.{CommandLine.{IsLine, job_app}, Matched.{all_in, first_in}, declared.asked.OwnOption.{OwnOption}}
 use Rattle.jb_csv_job.proofs.Matching.{ends_in, is_free, line-said, refused-by, simple, wrong-said}
 use Rattle.jb_csv_job.proofs.words.parse_words.Goals as goal
 

@@ -1,7 +1,6 @@
 use Rattle.jb_slice_run.specs.Coding.{IsCodable}
 use Rattle.jb_slice_file.proofs.Handed.{handed_on}
-use Rattle.jb_slice_run.proofs.Pushing.{one_of}
-use Rattle.jb_slice_run.proofs.Why.{why_not}
+use Rattle.jb_slice_run.proofs.{Pushing.one_of, Why.why_not}
 use Rattle.jb_slice_run.proofs.coding.coding_of.Goals as goal
 
 pub returns-in_err-write_list-clause-why : goal.returns-in_err-write_list-clause-why

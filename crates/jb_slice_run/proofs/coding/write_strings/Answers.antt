@@ -1,8 +1,7 @@
 use Rattle.std.proofs.Common.{[], ◌<◌, subst}
 use Rattle.jb_slice_run.specs.Coding.{IsShort}
 use Rattle.jb_slice_file.proofs.Handed.{handed_on}
-use Rattle.jb_slice_run.proofs.Pushing.{not_short, one_of}
-use Rattle.jb_slice_run.proofs.Why.{why_not}
+use Rattle.jb_slice_run.proofs.{Pushing.not_short, Pushing.one_of, Why.why_not}
 use Rattle.jb_slice_run.proofs.coding.write_strings.Goals as goal
 
 pub returns-in_err-write_string-clause-why : goal.returns-in_err-write_string-clause-why

@@ -1,7 +1,6 @@
 use Rattle.std.proofs.Common.{inr, refl}
 use Rattle.std.proofs.lemmas.Result.{IfOk-weaker, IfErr-weaker}
-use Rattle.jb_slice_run.proofs.Decoded.{list_read, no_list, no_list_number}
-use Rattle.jb_slice_run.proofs.Why.{why_not}
+use Rattle.jb_slice_run.proofs.{Decoded.list_read, Decoded.no_list, Decoded.no_list_number, Why.why_not}
 use Rattle.jb_slice_run.proofs.decoding.read_list.Goals as goal
 
 pub returns-in_default-clause-why : goal.returns-in_default-clause-why

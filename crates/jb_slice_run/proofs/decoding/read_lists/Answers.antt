@@ -1,7 +1,6 @@
 use Rattle.std.proofs.Common.{◌≡◌, ◌==◌, length, inr, refl, true≢false, sym, ap, ◌∙◌, arith}
 use Rattle.jb_slice_file.proofs.Handed.{handed_on}
-use Rattle.jb_slice_run.proofs.Decoded.{all_read, no_other_list}
-use Rattle.jb_slice_run.proofs.Why.{why_not}
+use Rattle.jb_slice_run.proofs.{Decoded.all_read, Decoded.no_other_list, Why.why_not}
 use Rattle.jb_slice_run.proofs.decoding.read_lists.Goals as goal
 
 pub returns-in_err-rest-clause-why : goal.returns-in_err-rest-clause-why

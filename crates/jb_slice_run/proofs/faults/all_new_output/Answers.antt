@@ -1,9 +1,8 @@
 use Rattle.std.proofs.Common.{◌≡◌, ◌∷◌, [], ◌++◌, ◌+◌, drop, length, map, option_map, Some, sym, ap, subst, ◌∙◌, rules}
 use Rattle.std.proofs.lemmas.List.{map_push, length-append, nil_from_length}
-use Rattle.std.specs.Prelude.{slice_get}
-use Rattle.std.specs.Vec.Iter.{into_iter_items}
+use Rattle.std.specs.{Prelude.slice_get, Vec.Iter.into_iter_items}
 use Rattle.jb_slice_run.specs.Held.{new_output_in}
-use Rattle.jb_slice_run.proofs.Newer.{Each, at-end, copied-map, each-more, left-within, next-left, one-get, rest-left}
+use Rattle.jb_slice_run.proofs.Newer.{Each, at-end, copied-map, each-more, next-left, one-get}
 use Rattle.jb_slice_run.proofs.faults.all_new_output.Goals as goal
 
 pub results-preserved : goal.results-preserved
@@ -19,17 +18,18 @@ results-preserved g c =
     let new = new_output_in c.in_ok-new_output_of.field-0 in
     let push : map new_output_in c.push.new.self.items ≡ all ++ new ∷ [] = ap (map new_output_in) c.in_ok-push.ensures.items ∙ map_push new_output_in c.results.all.items c.in_ok-new_output_of.field-0 in
     let here : slice_get c.args.rows.now n ≡ Some c.in-Some-row_at.row.now = search rules in
+    let so = next-left n all-results one rest left in
     let was : option_map (λ r. r.now) c.row_at-earlier.result ≡ slice_get c.args.before.now n = copied-map c.row_at-earlier.result ∙ c.row_at-earlier.ensures in
     record {
-      left = rest-left n all-results one rest left;
-      few = left-within n all-results one rest left;
+      left = so.1;
+      few = so.2;
       number = ap length push ∙ length-append all (new ∷ []) ∙ ap (λ m. m + 1) c.results.invariant.number;
       each = λ can.
           subst (Each f c.args.rules.now c.args.first c.args.items.now (slice_get c.args.before.now) c.args.rows.now all-results) (sym push)
           (each-more f c.args.rules.now c.args.first c.args.items.now (slice_get c.args.before.now) c.args.rows.now all-results all new (c.results.invariant.each can)
           (λ row o get o-get.
           one-get f c.args.rules.now c.args.first c.args.items.now c.args.before.now c.args.rows.now all-results n (length all) c.in-Some-row_at.row.now row one o new (option_map (λ r. r.now) c.row_at-earlier.result)
-          (sym c.results.invariant.number) here (next-left n all-results one rest left) was can c.in_ok-new_output_of.ensures get o-get));
+          (sym c.results.invariant.number) here so.0 was can c.in_ok-new_output_of.ensures get o-get));
     }
 
 pub returns : goal.returns

@@ -1,10 +1,7 @@
 use Rattle.std.proofs.Common.{◌≡◌, ◌≤◌, List, ℕ, drop, length, map, Some}
-use Rattle.std.specs.Prelude.{slice_get}
-use Rattle.std.specs.Vec.Iter.{into_iter_items}
+use Rattle.std.specs.{Prelude.slice_get, Vec.Iter.into_iter_items}
 use Rattle.jb_rules.specs.declared.row.Row.{Row}
-use Rattle.jb_slice_run.specs.Held.{new_output_in}
-use Rattle.jb_slice_run.specs.NewOutput.{CanAllGrow, IsNewOutputOf}
-use Rattle.jb_slice_run.specs.Strings.{NewOutput}
+use Rattle.jb_slice_run.specs.{Held.new_output_in, NewOutput.CanAllGrow, NewOutput.IsNewOutputOf, Strings.NewOutput}
 use Rattle.jb_slice_run.proofs.faults.all_new_output.Given as goal
 
 -- those of the partitions so far

@@ -1,7 +1,6 @@
 use Rattle.std.proofs.Common.{◌≡◌, ◌<◌, ℕ, option_map, None, subst}
 use Rattle.std.specs.Prelude.{MatchOption}
-use Rattle.jb_slice_run.specs.Held.{fault_in}
-use Rattle.jb_slice_run.specs.Rows.{fault_at}
+use Rattle.jb_slice_run.specs.{Held.fault_in, Rows.fault_at}
 use Rattle.jb_slice_run.proofs.Faulted.{stop-agrees}
 use Rattle.jb_slice_run.proofs.faults.stop_in.Goals as goal
 

@@ -1,9 +1,8 @@
 use Rattle.std.proofs.Common.{◌<◌, ◌≤◌, List, length, map, get_or, take_all, refl, sym, ap, subst, ◌∙◌, arith}
 use Rattle.std.proofs.lemmas.List.{get_or-map, length-map, length-set, map-set}
 use Rattle.jb_slice_file.proofs.Handed.{handed_on}
-use Rattle.jb_slice_run.specs.Held.{new_output_grown, new_output_in, no_new_output}
-use Rattle.jb_slice_run.specs.Strings.{NewOutput}
-use Rattle.jb_slice_run.proofs.Grown.{as_many, list_at, none_grown, one_partition, results_at, skips_at, small_at, stop_at}
+use Rattle.jb_slice_run.specs.{Held.new_output_grown, Held.new_output_in, Held.no_new_output, Strings.NewOutput}
+use Rattle.jb_slice_run.proofs.Grown.{as_many, list_at, lists_at, none_grown, one_partition, small_at}
 use Rattle.jb_slice_run.proofs.Why.{why_not}
 use Rattle.jb_slice_run.proofs.intervals.grow_all.Goals as goal
 
@@ -23,9 +22,9 @@ loop-index-preserved c =
           let count = as_many c.args.lists.now limits new is (length c.args.partitions.now) c.requires in
           let within : i < length new = subst (λ n. i < n) (sym count) c.loop-index-test.true in
           let below : i < length bs = subst (λ n. i < n) (sym (length-map c.args.partitions.now new_output_in)) c.loop-index-test.true in
-          let results = list_at c.args.lists.now limits new is i 0 within (omega arith) c.index-lists-index.result c.index-lists-index.is ∙ results_at new i within in
-          let skips = list_at c.args.lists.now limits new is i 1 within (omega arith) c.index-lists-index-in-loop-index.result c.index-lists-index-in-loop-index.is ∙ skips_at new i within in
-          let stop = list_at c.args.lists.now limits new is i 2 within (omega arith) c.index-lists-index-in-loop-index-2.result c.index-lists-index-in-loop-index-2.is ∙ stop_at new i within in
+          let results = list_at c.args.lists.now limits new is i 0 within (omega arith) c.index-lists-index.result c.index-lists-index.is ∙ (lists_at new i within).0 in
+          let skips = list_at c.args.lists.now limits new is i 1 within (omega arith) c.index-lists-index-in-loop-index.result c.index-lists-index-in-loop-index.is ∙ (lists_at new i within).1 in
+          let stop = list_at c.args.lists.now limits new is i 2 within (omega arith) c.index-lists-index-in-loop-index-2.result c.index-lists-index-in-loop-index-2.is ∙ (lists_at new i within).2 in
           map-set new_output_in ps i c.grow.new.new_output
           ∙ one_partition bs new i (map new_output_in ps) (new_output_in (get_or ps i p)) (new_output_in c.grow.new.new_output) (c.loop-index.invariant.grown limits new small is) within below
           (sym (get_or-map new_output_in ps i p no_new_output here))
@@ -41,8 +40,8 @@ returns-in_err-grow-clause-why c =
     (λ none limits new is.
     let count = as_many c.args.lists.now limits new is (length c.args.partitions.now) c.requires in
     let within : i < length new = subst (λ n. i < n) (sym count) c.loop-index-test.true in
-    let skips = list_at c.args.lists.now limits new is i 1 within (omega arith) c.index-lists-index-in-loop-index.result c.index-lists-index-in-loop-index.is ∙ skips_at new i within in
-    let stop = list_at c.args.lists.now limits new is i 2 within (omega arith) c.index-lists-index-in-loop-index-2.result c.index-lists-index-in-loop-index-2.is ∙ stop_at new i within in
+    let skips = list_at c.args.lists.now limits new is i 1 within (omega arith) c.index-lists-index-in-loop-index.result c.index-lists-index-in-loop-index.is ∙ (lists_at new i within).1 in
+    let stop = list_at c.args.lists.now limits new is i 2 within (omega arith) c.index-lists-index-in-loop-index-2.result c.index-lists-index-in-loop-index-2.is ∙ (lists_at new i within).2 in
     none (get_or new i no_new_output) skips stop)
     c.in_err-grow.ensures.why)
 

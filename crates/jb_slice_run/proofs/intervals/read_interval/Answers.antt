@@ -1,11 +1,8 @@
 use Rattle.std.proofs.Common.{get_or, inr, sym, ap, ◌∙◌}
 use Rattle.jb_slice_file.proofs.Handed.{handed_on}
 use Rattle.jb_slice_file.specs.CheckpointBytes.{checkpoint_bytes}
-use Rattle.jb_slice_run.specs.Held.{limits_in}
-use Rattle.jb_slice_run.specs.Strings.{all_new_output, interval_lists, limits_list}
-use Rattle.jb_slice_run.proofs.Grown.{interval_coding}
-use Rattle.jb_slice_run.proofs.Why.{why_not}
-use Rattle.jb_slice_run.proofs.Once.{limits_once}
+use Rattle.jb_slice_run.specs.{Held.limits_in, Strings.all_new_output, Strings.interval_lists, Strings.limits_list}
+use Rattle.jb_slice_run.proofs.{Grown.interval_coding, Why.why_not, Once.limits_once}
 use Rattle.jb_slice_run.proofs.intervals.read_interval.Goals as goal
 
 pub returns-in_err-lists-clause-why : goal.returns-in_err-lists-clause-why

@@ -4,9 +4,7 @@ use Rattle.jb_slice_file.proofs.Handed.{handed_on}
 use Rattle.jb_slices.specs.Checkpoint.{GoesOn}
 use Rattle.jb_slice_run.specs.Held.{limits_in, limits_led, new_output_grown, new_output_in, new_output_led, no_new_output}
 use Rattle.jb_slice_run.specs.Strings.{all_new_output}
-use Rattle.jb_slice_run.proofs.Bytes.{written_back}
-use Rattle.jb_slice_run.proofs.Grown.{kept_length, led_more, limits_more, nth_interval}
-use Rattle.jb_slice_run.proofs.Why.{why_not}
+use Rattle.jb_slice_run.proofs.{Bytes.written_back, Grown.kept_length, Grown.led_more, Grown.limits_more, Grown.nth_interval, Why.why_not}
 use Rattle.jb_slice_run.proofs.intervals.read_slice.Goals as goal
 
 pub loop-checkpoint-init : goal.loop-checkpoint-init

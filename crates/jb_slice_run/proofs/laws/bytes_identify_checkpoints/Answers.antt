@@ -1,7 +1,4 @@
-use Rattle.jb_slice_run.proofs.Examples.{some_kept}
-use Rattle.jb_slice_run.proofs.Beginning.{begins_with_header, own_slices}
-use Rattle.jb_slice_run.proofs.Places.{places_are_read}
-use Rattle.jb_slice_run.proofs.Telling.{all_once, each_once, fronts, one_more}
+use Rattle.jb_slice_run.proofs.{Examples.some_kept, Beginning.begins_with_header, Beginning.own_slices, Places.places_are_read, Telling.all_once, Telling.each_once, Telling.fronts, Telling.one_more}
 use Rattle.jb_slice_run.proofs.laws.bytes_identify_checkpoints.Goals as goal
 
 pub returns : goal.returns

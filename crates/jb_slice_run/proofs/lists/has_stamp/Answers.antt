@@ -1,6 +1,5 @@
 use Rattle.std.proofs.Common.{◌≡◌, ◌∷◌, [], List, ℕ, Option, Some, map, slice_get, ap, subst, sym, ◌∙◌}
-use Rattle.std.specs.Bool.{MatchBool}
-use Rattle.std.specs.List.{Contains}
+use Rattle.std.specs.{Bool.MatchBool, List.Contains}
 use Rattle.jb_slice_run.proofs.Comparing.{behind_own}
 use Rattle.jb_slice_run.proofs.lists.has_stamp.Goals as goal
 

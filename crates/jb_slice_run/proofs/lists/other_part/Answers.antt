@@ -1,7 +1,6 @@
 use Rattle.std.proofs.Common.{◌∷◌, [], ap, refl}
 use Rattle.jb_slice_run.specs.Strings.{classes_list, number_string}
-use Rattle.jb_slice_run.proofs.Comparing.{other_part, same_part}
-use Rattle.jb_slice_run.proofs.Once.{classes_once, head_of, job_is, number_once}
+use Rattle.jb_slice_run.proofs.{Comparing.other_part, Comparing.same_part, Once.classes_once, Once.head_of, Once.job_is, Once.number_once}
 use Rattle.jb_slice_run.proofs.lists.other_part.Goals as goal
 
 pub returns-then-not-is_same : goal.returns-then-not-is_same

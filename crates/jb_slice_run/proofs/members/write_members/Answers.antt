@@ -1,9 +1,8 @@
 use Rattle.std.proofs.Common.{◌≡◌, ◌++◌, ◌∷◌, [], decimal, map, ap, sym, refl, List, ℕ, ◌∙◌}
 use Rattle.std.proofs.lemmas.List.{append-nil}
 use Rattle.json.specs.Token.{number}
-use Rattle.jb_slice_run.proofs.Sets.{no_classes, class_written, class_passed}
+use Rattle.jb_slice_run.proofs.{Sets.no_classes, Sets.class_written, Sets.class_passed, members.write_members.Goals.then-set-class-eq1+in_ok-u64, members.write_members.Goals.else-set-class-eq1}
 use Rattle.jb_slice_run.proofs.members.write_members.Goals as goal
-use Rattle.jb_slice_run.proofs.members.write_members.Goals.{then-set-class-eq1+in_ok-u64, else-set-class-eq1}
 
 pub loop-class-init : goal.loop-class-init
 loop-class-init c = record {

@@ -1,9 +1,7 @@
 use Rattle.std.proofs.Common.{◌≡◌, ◌++◌, ◌∷◌, [], length, map, option_map, take, rules, sym, ap, ◌∙◌}
-use Rattle.std.proofs.lemmas.List.{length-map, map_push, take_more}
-use Rattle.std.proofs.lemmas.Option.{slice_get-map}
+use Rattle.std.proofs.{lemmas.List.length-map, lemmas.List.map_push, lemmas.List.take_more, lemmas.Option.slice_get-map}
 use Rattle.std.specs.Prelude.{slice_get}
-use Rattle.jb_slice_run.specs.Held.{new_output_in}
-use Rattle.jb_slice_run.specs.Named.{faults_grown, faults_held, one_after}
+use Rattle.jb_slice_run.specs.{Held.new_output_in, Named.faults_grown, Named.faults_held, Named.one_after}
 use Rattle.jb_slice_run.proofs.Holding.{after-length, held-copied, none-after, one-pushed}
 use Rattle.jb_slice_run.proofs.named.faults_after.Goals as goal
 

@@ -1,6 +1,5 @@
 use Rattle.std.proofs.Common.{◌≡◌, map, take}
-use Rattle.jb_slice_run.specs.Held.{new_output_in}
-use Rattle.jb_slice_run.specs.Named.{faults_grown, faults_held}
+use Rattle.jb_slice_run.specs.{Held.new_output_in, Named.faults_grown, Named.faults_held}
 use Rattle.jb_slice_run.proofs.named.faults_after.Given as goal
 
 -- the faults of the partitions so far

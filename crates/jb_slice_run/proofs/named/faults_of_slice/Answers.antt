@@ -1,7 +1,6 @@
 use Rattle.std.proofs.Common.{map, arith}
 use Rattle.std.proofs.lemmas.List.{length-map}
-use Rattle.jb_slice_run.specs.Jobs.{job_in}
-use Rattle.jb_slice_run.specs.Named.{faults_held}
+use Rattle.jb_slice_run.specs.{Jobs.job_in, Named.faults_held}
 use Rattle.jb_slice_run.proofs.Naming.{held_named, held_number}
 use Rattle.jb_slice_run.proofs.named.faults_of_slice.Goals as goal
 

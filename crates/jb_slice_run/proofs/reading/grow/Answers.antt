@@ -1,7 +1,6 @@
 use Rattle.std.proofs.Common.{◌≡◌, ◌++◌, option_map, ap, sym, ◌∙◌}
 use Rattle.jb_slice_run.specs.Held.{fault_in, faults_in, new_output_in}
-use Rattle.jb_slice_run.proofs.Bytes.{put_together, some_small}
-use Rattle.jb_slice_run.proofs.Once.{stop_once}
+use Rattle.jb_slice_run.proofs.{Bytes.put_together, Bytes.some_small, Once.stop_once}
 use Rattle.jb_slice_run.proofs.reading.grow.Goals as goal
 
 pub returns-clause-read : goal.returns-clause-read

@@ -1,11 +1,8 @@
 use Rattle.std.proofs.Common.{◌≡◌, ◌<◌, ◌≤◌, ◌∷◌, ◌++◌, [], inr, refl, rules, sym, ap, subst, ◌∙◌, append_assoc, take_all}
 use Rattle.std.proofs.lemmas.List.{append-nil, map-append}
 use Rattle.jb_slices.specs.Function.{Fault}
-use Rattle.jb_slice_run.specs.Held.{fault_in, faults_in}
-use Rattle.jb_slice_run.specs.Strings.{IsSmall}
-use Rattle.jb_slice_run.proofs.Bytes.{fault_more, no_faults}
-use Rattle.jb_slice_run.proofs.Each.{each_put}
-use Rattle.jb_slice_run.proofs.Once.{faults_once}
+use Rattle.jb_slice_run.specs.{Held.fault_in, Held.faults_in, Strings.IsSmall}
+use Rattle.jb_slice_run.proofs.{Bytes.fault_more, Bytes.no_faults, Each.each_put, Once.faults_once}
 use Rattle.jb_slice_run.proofs.reading.read_faults.Goals as goal
 
 pub loop-index-init : goal.loop-index-init

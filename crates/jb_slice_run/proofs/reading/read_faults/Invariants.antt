@@ -1,7 +1,6 @@
 use Rattle.std.proofs.Common.{◌≡◌, ◌++◌, List, map, take}
 use Rattle.jb_slices.specs.Function.{Fault}
-use Rattle.jb_slice_run.specs.Held.{faults_in}
-use Rattle.jb_slice_run.specs.Strings.{AreFaultsSmall, fault_string}
+use Rattle.jb_slice_run.specs.{Held.faults_in, Strings.AreFaultsSmall, Strings.fault_string}
 use Rattle.jb_slice_run.proofs.reading.read_faults.Given as goal
 
 -- the faults so far were read

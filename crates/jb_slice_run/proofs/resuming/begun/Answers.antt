@@ -1,6 +1,5 @@
 use Rattle.std.proofs.Common.{length, ◌∙◌}
-use Rattle.jb_slice_run.specs.Held.{limits_in}
-use Rattle.jb_slice_run.specs.Jobs.{job_in}
+use Rattle.jb_slice_run.specs.{Held.limits_in, Jobs.job_in}
 use Rattle.jb_slice_run.proofs.resuming.begun.Goals as goal
 
 pub returns-clause-runs : goal.returns-clause-runs

@@ -1,11 +1,7 @@
 use Rattle.std.specs.Arc.{arc_value}
 use Rattle.jb_slice_file.proofs.Handed.{handed_on}
-use Rattle.jb_slice_run.specs.Causes.{IsResumeCause}
-use Rattle.jb_slice_run.specs.Held.{header_in, limits_in}
-use Rattle.jb_slice_run.specs.Jobs.{job_in}
-use Rattle.jb_slice_run.specs.declared.run_error.SliceRunError.TheVariants.{Checkpoints}
-use Rattle.jb_slice_run.proofs.Refusing.{header-coded, ok-all, unbegun-why}
-use Rattle.jb_slice_run.proofs.Resumed.{stands-blank}
+use Rattle.jb_slice_run.specs.{Causes.Explains, Causes.InMemory, Causes.Resuming, Held.header_in, Held.limits_in, Jobs.job_in}
+use Rattle.jb_slice_run.proofs.{Refusing.header-coded, Refusing.ok-all, Refusing.unbegun-why, Resumed.stands-blank}
 use Rattle.jb_slice_run.proofs.resuming.blank.Goals as goal
 
 pub returns-clause-stands : goal.returns-clause-stands
@@ -25,5 +21,5 @@ pub returns-in_err-first-clause-why : goal.returns-in_err-first-clause-why
 returns-in_err-first-clause-why g c all =
     let f = g.F.RowFunction.answer (arc_value c.args.function.now) in
     let e = c.in_err-first.field-0.0 in
-    handed_on c.from_residual.result (Checkpoints e) (IsResumeCause c.args.job.now f c.args.number c.args.items.now all) c.from_residual.ensures.1
+    handed_on c.from_residual.result e (Explains (Resuming c.args.job.now f c.args.number c.args.items.now InMemory all)) c.from_residual.ensures.1
     (header-coded c.args.job.now f c.args.number c.args.items.now all (header_in c.args.own.now) e c.requires.own c.in_err-first.ensures.why)

@@ -1,6 +1,5 @@
 use Rattle.jb_slice_run.proofs.RowsEnded.{ends-of, even-order, idle-placed, restarted-placed, stamps-of, steps-divide, stops-named}
-use Rattle.jb_slice_run.proofs.RowsGrown.{first-follow, grown-is, have-rows, later-follow}
-use Rattle.jb_slice_run.proofs.RowsSoFar.{rows-so-far, so-far-rows}
+use Rattle.jb_slice_run.proofs.{RowsGrown.first-follow, RowsGrown.grown-is, RowsGrown.have-rows, RowsGrown.later-follow, RowsSoFar.rows-so-far, RowsSoFar.so-far-rows}
 use Rattle.jb_slice_run.proofs.row_laws.rows_are_progress.Goals as goal
 
 pub returns : goal.returns

@@ -3,8 +3,7 @@ use Rattle.std.proofs.lemmas.Result.{IfOk-weaker}
 use Rattle.json.specs.Print.{print}
 use Rattle.serde_json.proofs.Texts.{print-outline}
 use Rattle.jb_saved.specs.SavedTree.{tokens_of}
-use Rattle.jb_slice_run.specs.HeaderText.{header_tree}
-use Rattle.jb_slice_run.specs.Held.{header_in}
+use Rattle.jb_slice_run.specs.{HeaderText.header_tree, Held.header_in}
 use Rattle.jb_slice_run.proofs.text.header_text.Goals as goal
 
 pub returns : goal.returns

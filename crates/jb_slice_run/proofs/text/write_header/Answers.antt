@@ -3,9 +3,7 @@ use Rattle.std.proofs.lemmas.Result.{on_ok_weaker}
 use Rattle.json.specs.Token.{begin_object, end_object}
 use Rattle.serde_json.specs.Data.{string}
 use Rattle.jb_job.specs.JobTree.{number_tree}
-use Rattle.jb_slice_run.specs.Members.{classes_tree, limit_tree, member_tokens}
-use Rattle.jb_slice_run.specs.HeaderText.{names_tree}
-use Rattle.jb_slice_run.specs.Held.{header_in}
+use Rattle.jb_slice_run.specs.{Members.classes_tree, Members.limit_tree, Members.member_tokens, HeaderText.names_tree, Held.header_in}
 use Rattle.jb_slice_run.proofs.Pushing.{all_written}
 use Rattle.jb_slice_run.proofs.text.write_header.Goals as goal
 

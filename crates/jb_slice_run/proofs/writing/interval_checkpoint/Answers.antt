@@ -1,7 +1,5 @@
 use Rattle.std.proofs.Common.{map, sym, subst, ap, ◌∙◌}
-use Rattle.jb_slice_run.specs.Coding.{AreCodable, coded}
-use Rattle.jb_slice_run.specs.Held.{new_output_in}
-use Rattle.jb_slice_run.specs.Strings.{AreLimitsSmall, AreOutputsSmall, interval_lists}
+use Rattle.jb_slice_run.specs.{Coding.AreCodable, Coding.coded, Held.new_output_in, Strings.AreLimitsSmall, Strings.AreOutputsSmall, Strings.interval_lists}
 use Rattle.jb_slice_run.proofs.Grown.{lists_number}
 use Rattle.jb_slice_run.proofs.writing.interval_checkpoint.Goals as goal
 

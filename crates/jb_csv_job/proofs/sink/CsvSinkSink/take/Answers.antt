@@ -1,4 +1,3 @@
-use Rattle.std.proofs.Common.{}
 use Rattle.jb_csv_job.proofs.Sinks.{taken-more}
 use Rattle.jb_csv_job.proofs.sink.CsvSinkSink.take.Goals as goal
 

@@ -1,8 +1,9 @@
+use Rattle.std.proofs.Common.{subst}
 use Rattle.std.specs.Arc.{arc_value}
 use Rattle.sqlite.specs.Held.{state}
 use Rattle.jb_slice_file.proofs.Clean.{clean_before}
-use Rattle.jb_slice_run.specs.durable.Work.{IsShown, slice_input_of}
-use Rattle.jb_slice_run.proofs.durable.Telling.{has_all, underway_at}
+use Rattle.jb_slice_run.specs.durable.Work.{IfWhole, IsShown, IsWhole, slice_input_of}
+use Rattle.jb_slice_run.proofs.durable.Telling.{ended_whole, has_all, underway_at}
 use Rattle.jb_slice_run.proofs.durable.process_runs.resume_and_run.Goals as goal
 
 pub returns-clause-done : goal.returns-clause-done
@@ -14,12 +15,12 @@ returns-clause-done g c clean opened functions are all has so done =
     let after = c.in_ok-loop_end.ensures.kept clean functions all rest in
     let is = c.is_whole.ensures done in
     let agrees = c.in_ok-loop_end.ensures.agrees c.in_ok-place.ensures.agrees in
-    let whole = after.2.whole is in (
+    let whole = subst (λ x. IfWhole x (IsWhole w after.0)) is after.2.whole in (
       after.0,
       record {
         keeps = after.2.rests.keeps;
         whole = whole;
-        has_all = has_all w _ _ after.0 c.bytes_identify_checkpoints.ensures.one c.slices_have_results.ensures.all (underway_at w _ _ after.0 _ (agrees.settled is) after.2.rests.place) whole;
+        has_all = has_all w _ _ after.0 c.bytes_identify_checkpoints.ensures.one c.slices_have_results.ensures.all (underway_at w _ _ after.0 _ (ended_whole _ _ agrees is).0 after.2.rests.place) whole;
       },
     )
 

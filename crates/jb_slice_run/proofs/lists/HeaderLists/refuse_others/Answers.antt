@@ -1,7 +1,6 @@
 use Rattle.std.proofs.Common.{◌∷◌, [], get_or, inl, inr, refl, sym, ap, ◌∙◌}
 use Rattle.jb_slice_run.specs.Strings.{number_string}
-use Rattle.jb_slice_run.proofs.Comparing.{other_part, same_part, told_not, told_so}
-use Rattle.jb_slice_run.proofs.Once.{head_of, number_once}
+use Rattle.jb_slice_run.proofs.{Comparing.other_part, Comparing.same_part, Comparing.told_not, Comparing.told_so, Once.head_of, Once.number_once}
 use Rattle.jb_slice_run.proofs.lists.HeaderLists.refuse_others.Goals as goal
 
 pub returns-then-not-is_same-clause-why : goal.returns-then-not-is_same-clause-why
