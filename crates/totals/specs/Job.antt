@@ -3,6 +3,7 @@ use Rattle.std.specs.Prelude.{ℕ, ◌≡◌, List, [], ◌∷◌, IfSome, None,
 use Rattle.sqlite_wal.specs.Recovery.{Image}
 use Rattle.jb_csv_job.specs.Done.{IsByRules}
 use Rattle.jb_csv_job.specs.Job.{JobRecord}
+use Rattle.jb_csv_job.specs.Skipped.{IsListWritten}
 use Rattle.jb_csv_job.specs.SliceFiles.{CanResumeJob, LeavesSlice}
 use Rattle.jb_csv_job.specs.Tasks.{given_by}
 use Rattle.jb_csv_job.specs.declared.asked.Asked.{Asked}
@@ -59,6 +60,11 @@ LeavesSales prices stamp asked functions text slice image = LeavesSlice (totals_
 -- the exit status is 0 only if the job's rules let the sales pass, and 1 only if they don't
 abbrev pub IsTotalsByRules : (prices : List Amount) → (stamp : List ℕ) → Asked → (text : Option (List ℕ)) → (status : ℕ) → Type 0
 IsTotalsByRules prices stamp asked text status = IsByRules (totals_job prices stamp asked) text status
+
+-- the list has the rows of the first slices: the sales that were skipped. With status 0 it has exactly one for each sale that has a fault, in order:
+-- its number, its line, its class and the sale.
+abbrev pub AreSkipsListed : (prices : List Amount) → (stamp : List ℕ) → Asked → (text old new : Option (List ℕ)) → (status skips : ℕ) → Type 0
+AreSkipsListed prices stamp asked text old new status skips = IsListWritten (totals_job prices stamp asked) text old new status skips
 
 -- the results of all sales that were read were added up, unless a total was refused. A part of the job gives none.
 pub record AreAdded (prices : List Amount) (asked : Asked) (text : Option (List ℕ)) (adding : Adding) : Type 0 where

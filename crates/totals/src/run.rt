@@ -2,8 +2,9 @@
 
 ghost use Rattle.std.specs.Prelude.{◌≡◌, ◌⊎◌, ℕ, List, IfOk, IsTrue};
 ghost use Rattle.sqlite_wal.specs.Recovery.{Image};
+ghost use Rattle.jb_csv_job.specs.Skipped.{IfListed};
 ghost use Rattle.jb_slices.specs.Slice.{Functions};
-ghost use Rattle.totals.specs.Job.{AreAdded, AreSalesTakenUp, AreTotalsOf, IsTotalsByRules, LeavesSales};
+ghost use Rattle.totals.specs.Job.{AreAdded, AreSalesTakenUp, AreSkipsListed, AreTotalsOf, IsTotalsByRules, LeavesSales};
 
 use crate::adding::Adding;
 use crate::failure::TotalsError;
@@ -59,6 +60,8 @@ fn added<
     ensures by_rules { IsTrue (K.are_clean keeper.new) → (functions : Functions) → AreSalesTakenUp prices stamp.now asked.now functions (R.remaining from) H.log H.db
         → IfOk result (λ r. IsTotalsByRules prices stamp.now asked.now (R.remaining from) r.0.status) }
     ensures status { IfOk result (λ r. (r.0.status ≡ 0) ⊎ (r.0.status ≡ 1)) }
+    ensures listed { IsTrue (K.are_clean keeper.new) → (functions : Functions) → AreSalesTakenUp prices stamp.now asked.now functions (R.remaining from) H.log H.db
+        → IfOk result (λ r. IfListed list r.2 (λ old new. AreSkipsListed prices stamp.now asked.now (R.remaining from) (S.contents old) (S.contents new) r.0.status r.0.skips)) }
     ensures left { IsTrue (K.are_clean keeper.new) → (functions : Functions) → AreSalesTakenUp prices stamp.now asked.now functions (R.remaining from) H.log H.db
         → (slice : ℕ) (items : List (List ℕ)) (image : Image) → K.may_leave keeper.new slice items image
         → K.may_leave keeper.old slice items image ⊎ LeavesSales prices stamp.now asked.now functions (R.remaining from) slice image }
@@ -107,6 +110,10 @@ pub fn totals<
     ensures by_rules { IsTrue (K.are_clean keeper.new) → (functions : Functions) → AreSalesTakenUp prices stamp.now asked.now functions (R.remaining from) H.log H.db
         → IfOk result (λ r. IsTotalsByRules prices stamp.now asked.now (R.remaining from) r.0.status) }
     ensures status { IfOk result (λ r. (r.0.status ≡ 0) ⊎ (r.0.status ≡ 1)) }
+
+    // The list, if there is one, has a row for each sale that was skipped.
+    ensures listed { IsTrue (K.are_clean keeper.new) → (functions : Functions) → AreSalesTakenUp prices stamp.now asked.now functions (R.remaining from) H.log H.db
+        → IfOk result (λ r. IfListed list r.2 (λ old new. AreSkipsListed prices stamp.now asked.now (R.remaining from) (S.contents old) (S.contents new) r.0.status r.0.skips)) }
 
     // Whatever a crash leaves of the files of a slice is the job so far.
     ensures left { IsTrue (K.are_clean keeper.new) → (functions : Functions) → AreSalesTakenUp prices stamp.now asked.now functions (R.remaining from) H.log H.db

@@ -1,44 +1,53 @@
-use Rattle.std.proofs.Common.{◌⊎◌, [], List, ℕ, Option}
+use Rattle.std.proofs.Common.{◌≡◌, []}
+use Rattle.std.specs.Prelude.{IsTrue}
 use Rattle.jb_csv_job.specs.Done.{HasTakenAll}
-use Rattle.jb_rows.specs.Streams.{HasGivenRows}
+use Rattle.jb_csv_job.specs.Skipped.{IfListed}
+use Rattle.jb_csv_job.specs.SliceFiles.{LeavesJob}
+use Rattle.jb_csv_job.proofs.Carrying.{of-stream}
+use Rattle.jb_csv_job.proofs.Writing.{list-whole}
+use Rattle.jb_rows.proofs.Headers.{copied-is}
+use Rattle.jb_slices.specs.Slice.{Functions}
 use Rattle.totals.specs.Adding.{HasAdded}
-use Rattle.totals.specs.Job.{IsTotalsByRules, LeavesSales, totals_job, totals_options}
+use Rattle.totals.specs.Job.{AreSalesTakenUp, AreSkipsListed, IsTotalsByRules, totals_job, totals_options}
 use Rattle.totals.proofs.Added.{all-added}
-use Rattle.totals.proofs.Text.{of-stream}
 use Rattle.totals.proofs.run.added.Goals as goal
+use Rattle.totals.proofs.run.added.Goals.{After-run_slices}
+
+left : (g : _) (c : After-run_slices g) → IsTrue (g.K.Keeper.are_clean c.run_slices.new.keeper) → (functions : Functions)
+    → AreSalesTakenUp c.args.prices c.args.stamp.now c.args.asked.now functions (g.R.Read.remaining c.args.from) g.H.Stored.log g.H.Stored.db
+    → LeavesJob (totals_job c.args.prices c.args.stamp.now c.args.asked.now) functions (g.R.Read.remaining c.args.from) (g.K.Keeper.may_leave c.args.keeper.now) (g.K.Keeper.may_leave c.run_slices.new.keeper)
+left g c clean =
+    let job = totals_job c.args.prices c.args.stamp.now c.args.asked.now in
+    of-stream job g.R.Read.remaining c.in_ok-reader.reader g.H.Stored.log g.H.Stored.db (g.R.Read.remaining c.args.from)
+    (λ functions text. LeavesJob job functions text (g.K.Keeper.may_leave c.args.keeper.now) (g.K.Keeper.may_leave c.run_slices.new.keeper)) c.in_ok-reader.ensures.given (c.run_slices.ensures.left clean)
 
 pub returns-in_err-end-clause-left : goal.returns-in_err-end-clause-left
-returns-in_err-end-clause-left g c = λ clean functions taken slice items image leaves.
-    of-stream (totals_job c.args.prices c.args.stamp.now c.args.asked.now) functions g.H.Stored.log g.H.Stored.db (g.R.Read.remaining c.args.from)
-    (λ (bytes : List ℕ). HasGivenRows totals_options g.R.Read.remaining c.in_ok-reader.reader bytes [])
-    (λ (text : Option (List ℕ)). g.K.Keeper.may_leave c.args.keeper.now slice items image ⊎ LeavesSales c.args.prices c.args.stamp.now c.args.asked.now functions text slice image)
-    c.in_ok-reader.ensures.given taken (λ bytes given known. c.run_slices.ensures.left clean bytes given functions known slice items image leaves)
+returns-in_err-end-clause-left g c = left g (goal.at.returns-in_err-end-clause-left g c).After-run_slices
 
 pub returns-in_err-listed-clause-left : goal.returns-in_err-listed-clause-left
-returns-in_err-listed-clause-left g c = λ clean functions taken slice items image leaves.
-    of-stream (totals_job c.args.prices c.args.stamp.now c.args.asked.now) functions g.H.Stored.log g.H.Stored.db (g.R.Read.remaining c.args.from)
-    (λ (bytes : List ℕ). HasGivenRows totals_options g.R.Read.remaining c.in_ok-reader.reader bytes [])
-    (λ (text : Option (List ℕ)). g.K.Keeper.may_leave c.args.keeper.now slice items image ⊎ LeavesSales c.args.prices c.args.stamp.now c.args.asked.now functions text slice image)
-    c.in_ok-reader.ensures.given taken (λ bytes given known. c.run_slices.ensures.left clean bytes given functions known slice items image leaves)
+returns-in_err-listed-clause-left g c = left g (goal.at.returns-in_err-listed-clause-left g c).After-run_slices
 
 pub returns-clause-left : goal.returns-clause-left
-returns-clause-left g c = λ clean functions taken slice items image leaves.
-    of-stream (totals_job c.args.prices c.args.stamp.now c.args.asked.now) functions g.H.Stored.log g.H.Stored.db (g.R.Read.remaining c.args.from)
-    (λ (bytes : List ℕ). HasGivenRows totals_options g.R.Read.remaining c.in_ok-reader.reader bytes [])
-    (λ (text : Option (List ℕ)). g.K.Keeper.may_leave c.args.keeper.now slice items image ⊎ LeavesSales c.args.prices c.args.stamp.now c.args.asked.now functions text slice image)
-    c.in_ok-reader.ensures.given taken (λ bytes given known. c.run_slices.ensures.left clean bytes given functions known slice items image leaves)
+returns-clause-left g c = left g (goal.at.returns-clause-left g c).After-run_slices
 
 pub returns-clause-by_rules : goal.returns-clause-by_rules
-returns-clause-by_rules g c = λ clean functions taken.
-    of-stream (totals_job c.args.prices c.args.stamp.now c.args.asked.now) functions g.H.Stored.log g.H.Stored.db (g.R.Read.remaining c.args.from)
-    (λ (bytes : List ℕ). HasGivenRows totals_options g.R.Read.remaining c.in_ok-reader.reader bytes [])
-    (λ (text : Option (List ℕ)). IsTotalsByRules c.args.prices c.args.stamp.now c.args.asked.now text c.in_ok-end.end.status)
-    c.in_ok-reader.ensures.given taken (λ bytes given known. c.in_ok-end.ensures.by_rules clean bytes given functions known)
+returns-clause-by_rules g c clean =
+    of-stream (totals_job c.args.prices c.args.stamp.now c.args.asked.now) g.R.Read.remaining c.in_ok-reader.reader g.H.Stored.log g.H.Stored.db (g.R.Read.remaining c.args.from)
+    (λ functions text. IsTotalsByRules c.args.prices c.args.stamp.now c.args.asked.now text c.in_ok-end.end.status) c.in_ok-reader.ensures.given (c.in_ok-end.ensures.by_rules clean)
+
+pub returns-clause-listed : goal.returns-clause-listed
+returns-clause-listed g c clean =
+    let job = totals_job c.args.prices c.args.stamp.now c.args.asked.now in
+    of-stream job g.R.Read.remaining c.in_ok-reader.reader g.H.Stored.log g.H.Stored.db (g.R.Read.remaining c.args.from)
+    (λ functions text. IfListed c.args.list c.in_ok-listed.listed (λ old new.
+    AreSkipsListed c.args.prices c.args.stamp.now c.args.asked.now text (g.S.Write.contents old) (g.S.Write.contents new) c.in_ok-end.end.status c.in_ok-end.end.skips))
+    c.in_ok-reader.ensures.given (λ bytes given functions up.
+    list-whole g.S.Write.contents job bytes [] c.in_ok-end.end.status c.in_ok-end.end.skips c.args.list c.in_ok-listing.listing c.run_slices.new.list c.in_ok-listed.listed
+    (copied-is totals_options g.R.Read.remaining c.in_ok-reader.reader bytes [] given) c.in_ok-listing.ensures (c.in_ok-end.ensures.listed clean bytes given functions up) c.in_ok-listed.ensures)
 
 pub returns-clause-all : goal.returns-clause-all
-returns-clause-all g c = λ clean functions taken zero.
+returns-clause-all g c clean functions taken zero =
+    let job = totals_job c.args.prices c.args.stamp.now c.args.asked.now in
     all-added c.args.prices c.args.stamp.now c.args.asked.now (g.R.Read.remaining c.args.from) c.new-adding.result c.run_slices.new.sink c.new-adding.ensures
-    (of-stream (totals_job c.args.prices c.args.stamp.now c.args.asked.now) functions g.H.Stored.log g.H.Stored.db (g.R.Read.remaining c.args.from)
-    (λ (bytes : List ℕ). HasGivenRows totals_options g.R.Read.remaining c.in_ok-reader.reader bytes [])
-    (λ (text : Option (List ℕ)). HasTakenAll (totals_job c.args.prices c.args.stamp.now c.args.asked.now) text (HasAdded c.new-adding.result c.run_slices.new.sink))
-    c.in_ok-reader.ensures.given taken (λ bytes given known. c.in_ok-end.ensures.all clean bytes given functions known zero))
+    (of-stream job g.R.Read.remaining c.in_ok-reader.reader g.H.Stored.log g.H.Stored.db (g.R.Read.remaining c.args.from)
+    (λ functions text. c.in_ok-end.end.status ≡ 0 → HasTakenAll job text (HasAdded c.new-adding.result c.run_slices.new.sink)) c.in_ok-reader.ensures.given (c.in_ok-end.ensures.all clean) functions taken zero)
