@@ -3,12 +3,10 @@
 ghost use Rattle.std.specs.Prelude.{◌≡◌};
 ghost use Rattle.jb_repo.specs.History.{lane_of, begun_by};
 ghost use Rattle.jb_repo.specs.Answers.{places_of};
-ghost use Rattle.jb_repo.specs.Rows.{gain};
 
 use crate::deltas::Delta;
 use jb_base::ClassId;
 use jb_cert::Certificate;
-use jb_rules::Counts;
 use std::mem::size_of;
 
 /// An event of a step. Owners and partitions are numbered from 0. A lane is a thread of the step.
@@ -72,21 +70,6 @@ impl Event {
             | Event::Roll(_, _, _)
             | Event::Fail(_, _, _)
             | Event::Drop(_) => 0,
-        }
-    }
-
-    /// What the event adds to the counts of its partition.
-    pub(crate) fn gain(&self) -> Counts
-        ensures { result ≡ gain self.now }
-    {
-        match *self {
-            Event::Commit(_, delta, _, _) => delta.counts(),
-            Event::Roll(_, _, _) | Event::Fail(_, _, _) => Counts {
-                rollback: 1,
-                ..Counts::ZERO
-            },
-            Event::Begin(_, _) | Event::Drop(_) | Event::Plan(_, _) | Event::Round | Event::Stop =>
-                Counts::ZERO,
         }
     }
 }

@@ -2,10 +2,11 @@
 
 ghost use Rattle.std.specs.Prelude.{◌≡◌, ℕ, ◌<◌, ◌≤◌, List, ◌∷◌, Option, Some, IfSome, length, slice_get, slice_index_or};
 ghost use Rattle.jb_base.specs.Limits.{max_events, max_item_count, max_partitions};
+ghost use Rattle.jb_rules.specs.Counts.{SumsFit, plus_counts};
 ghost use Rattle.jb_rules.specs.declared.row.Row.{Row};
 ghost use Rattle.jb_repo.specs.History.{partition_of};
 ghost use Rattle.jb_repo.specs.Openable.{opened_journal};
-ghost use Rattle.jb_repo.specs.Rows.{total_counts};
+ghost use Rattle.jb_repo.specs.Rows.{gain, total_counts};
 ghost use Rattle.jb_repo.specs.Table.{Journal, after};
 ghost use Rattle.jb_repo.specs.inside.Fit.{CountsFit};
 ghost use Rattle.jb_repo.specs.inside.Projection.{Shows, ShowOwnEvents, CanEnter};
@@ -17,7 +18,7 @@ use crate::laws::lower_laws;
 use crate::marks::Marks;
 use crate::owners::Owners;
 use crate::plan_progress::PlanProgress;
-use crate::steps::stepped;
+use crate::steps::step;
 use crate::table::totals;
 use jb_base::{MAX_PARTITIONS, Range};
 use jb_rules::{Counts, Row};
@@ -69,7 +70,7 @@ impl Projection {
         let partition = self.owners.partition_of(event);
         step_rows(&mut self.rows, partition, event, item_count);
         count_own(&mut self.own_events, partition);
-        self.totals = self.totals.plus(&event.gain());
+        add_gain(&mut self.totals, event);
         self.reserved = self.reserved + event.places() - 1;
         self.owners.note(event);
         self.marks.note(event);
@@ -94,7 +95,7 @@ fn step_rows(
 {
     if let Some(partition) = partition {
         let index = partition as usize;
-        rows[index] = stepped(rows[index], event, item_count);
+        step(&mut rows[index], event, item_count);
     }
 }
 
@@ -106,5 +107,17 @@ fn count_own(counts: &mut [u64; MAX_PARTITIONS], partition: Option<u32>)
 {
     if let Some(partition) = partition {
         counts[partition as usize] += 1;
+    }
+}
+
+/// Adds what the event gains to the totals.
+fn add_gain(totals: &mut Counts, event: Event)
+    requires { SumsFit totals.old (gain event) }
+    ensures { totals.new ≡ plus_counts totals.old (gain event) }
+{
+    match event {
+        Event::Commit(_, delta, _, _) => totals.add(&delta.counts()),
+        Event::Roll(_, _, _) | Event::Fail(_, _, _) => totals.rollback += 1,
+        Event::Begin(_, _) | Event::Drop(_) | Event::Plan(_, _) | Event::Round | Event::Stop => {}
     }
 }

@@ -50,7 +50,7 @@ pub fn totals(rows: &[Row]) -> Counts
 {
     let mut totals = Counts::ZERO;
     for row in rows {
-        totals = totals.plus(&row.counts);
+        totals.add(&row.counts);
     }
     totals
 }

@@ -43,16 +43,24 @@ impl Counts {
         requires { SumsFit self.now other.now }
         ensures { result ≡ plus_counts self.now other.now }
     {
-        Counts {
-            read: self.read + other.read,
-            write: self.write + other.write,
-            commit: self.commit + other.commit,
-            rollback: self.rollback + other.rollback,
-            read_skip: self.read_skip + other.read_skip,
-            process_skip: self.process_skip + other.process_skip,
-            filter: self.filter + other.filter,
-            write_skip: self.write_skip + other.write_skip,
-        }
+        let mut sums = *self;
+        sums.add(other);
+        sums
+    }
+
+    /// Adds the other's numbers to these, each to its own.
+    pub fn add(&mut self, other: &Counts)
+        requires { SumsFit self.old other.now }
+        ensures { self.new ≡ plus_counts self.old other.now }
+    {
+        self.read += other.read;
+        self.write += other.write;
+        self.commit += other.commit;
+        self.rollback += other.rollback;
+        self.read_skip += other.read_skip;
+        self.process_skip += other.process_skip;
+        self.filter += other.filter;
+        self.write_skip += other.write_skip;
     }
 
     /// Whether a committed chunk of so many records may add these counts.

@@ -64,11 +64,20 @@ impl Row {
         ensures row { result ≡ repeated_row self.now again }
         ensures sound { IsSoundRow result }
     {
-        Row {
-            retries: self.retries + again,
-            in_place: self.in_place + again,
-            ..*self
-        }
+        let mut row = *self;
+        row.repeat(again);
+        row
+    }
+
+    /// As `repeated`, of the row itself.
+    pub fn repeat(&mut self, again: u64)
+        requires sound { IsSoundRow self.old }
+        requires room { self.old.in_place + again ≤ max_in_place }
+        ensures row { self.new ≡ repeated_row self.old again }
+        ensures sound { IsSoundRow self.new }
+    {
+        self.retries += again;
+        self.in_place += again;
     }
 
     /// The row after a chunk that ends at record `at` was committed with these counts.
@@ -80,17 +89,28 @@ impl Row {
         ensures row { result ≡ committed_row self.now at delta.now }
         ensures sound { IsSoundRow result }
     {
-        Row {
-            at,
-            written: self.written + delta.write,
-            counts: self.counts.plus(delta),
-            state: if at == self.hi {
-                RowState::Finished
-            } else {
-                RowState::Waiting
-            },
-            ..*self
-        }
+        let mut row = *self;
+        row.commit(at, delta);
+        row
+    }
+
+    /// As `committed`, of the row itself.
+    pub fn commit(&mut self, at: u64, delta: &Counts)
+        requires sound { IsSoundRow self.old }
+        requires from { self.old.at < at }
+        requires to { at ≤ self.old.hi }
+        requires delta { IsDelta (at - self.old.at) delta.now }
+        ensures row { self.new ≡ committed_row self.old at delta.now }
+        ensures sound { IsSoundRow self.new }
+    {
+        self.at = at;
+        self.written += delta.write;
+        self.counts.add(delta);
+        self.state = if at == self.hi {
+            RowState::Finished
+        } else {
+            RowState::Waiting
+        };
     }
 
     /// How many faults the partition has skipped in chunks that were committed: in reads, process calls and writes.

@@ -46,13 +46,13 @@ pub fn work<L: Ledger, T: PartitionTask, G: Gate, R: Wait>(
     let mut share = share;
     let round = match desk.begin(rt, lane, task.partition()) {
         Ok(round) => round,
-        Err(refused) => return (Err(RoundError::Refused(refused)), share),
+        Err(refused) => return kept_out(refused, share),
     };
     gate.arrive(lane, round);
     if is_at_limit(task.row()) {
         desk.give_up(rt, lane);
         gate.leave(lane, round);
-        return (Err(RoundError::Refused(Refused::Full)), share);
+        return kept_out(Refused::Full, share);
     }
     let done = task.attempt(alloc);
     attempts_fit();
@@ -61,6 +61,16 @@ pub fn work<L: Ledger, T: PartitionTask, G: Gate, R: Wait>(
     gate.leave(lane, round);
     match ended {
         Ok(()) => (Ok(done), share),
-        Err(refused) => (Err(RoundError::Refused(refused)), share),
+        Err(refused) => kept_out(refused, share),
     }
+}
+
+/// The answer of a work that was refused for this reason, with its share.
+fn kept_out<L: Ledger, T: PartitionTask>(
+    refused: Refused,
+    share: Share<L>,
+) -> (Result<Done<T>, RoundError>, Share<L>)
+    ensures { result ≡ (Err (RoundError.Refused refused), share) }
+{
+    (Err(RoundError::Refused(refused)), share)
 }

@@ -1,5 +1,5 @@
 -- What is stored beside a history, and the questions about the history that it answers.
-use Rattle.std.specs.Prelude.{◌≡◌, ℕ, ◌<◌, ◌≤◌, Bool, List, length, take, Option, None, IfSome, slice_index_or}
+use Rattle.std.specs.Prelude.{◌≡◌, ◌==◌, ℕ, ◌+◌, ◌<◌, ◌≤◌, List, length, take, Option, None, IfSome, slice_index_or}
 use Rattle.jb_base.specs.Limits.{max_events, max_partitions, max_threads}
 use Rattle.jb_base.specs.declared.class.ClassId.{ClassId}
 use Rattle.jb_repo.specs.declared.events.Event.{Event}
@@ -23,10 +23,14 @@ pub record IsInPlace (e : Event) : Type 0 where
 abbrev pub ShowOwners : Owners → List Event → Type 0
 ShowOwners owners past = (l : ℕ) (d : Option ℕ) → l < max_threads → slice_index_or owners.partitions l d ≡ owner l past
 
--- each lane and each partition is marked if the history says so
+-- each lane and each partition is marked if the history says so: its number is that of this round. None has a later one, and there were no
+-- more rounds than events
 pub record ShowMarks (marks : Marks) (past : List Event) : Type 0 where
-  pub lanes : (l : ℕ) (d : Bool) → l < max_threads → slice_index_or marks.lanes l d ≡ is_lane_marked l past
-  pub partitions : (p : ℕ) (d : Bool) → p < max_partitions → slice_index_or marks.partitions p d ≡ is_partition_marked p past
+  pub lanes : (l d : ℕ) → l < max_threads → (slice_index_or marks.lanes l d == marks.round) ≡ is_lane_marked l past
+  pub partitions : (p d : ℕ) → p < max_partitions → (slice_index_or marks.partitions p d == marks.round) ≡ is_partition_marked p past
+  pub early_lanes : (l d : ℕ) → l < max_threads → slice_index_or marks.lanes l d ≤ marks.round
+  pub early_partitions : (p d : ℕ) → p < max_partitions → slice_index_or marks.partitions p d ≤ marks.round
+  pub rounds : marks.round ≡ number is_round past + 1
 
 -- the number of plans, the last one's rounds, and what came after it
 pub record ShowPlan (plan : PlanProgress) (past : List Event) : Type 0 where

@@ -45,15 +45,20 @@ count_own-requires-clause-few c =
     let k = (goal.at.count_own-requires-clause-few c).After-partition_of-partition in
     λ p d lt. omega (arith, c.requires.1.shows.own_events p d lt, own-few p c.requires.0.past, more k)
 
-pub plus-self-requires : goal.plus-self-requires
-plus-self-requires c =
+pub add_gain-requires : goal.add_gain-requires
+add_gain-requires c =
     let can = c.requires.1 in
-    rw (can.shows.totals, c.gain.ensures) (sums_fit c.requires.0 can.ready can.accepted c.args.event can.passes c.lower_laws.ensures)
+    rw can.shows.totals (sums_fit c.requires.0 can.ready can.accepted c.args.event can.passes c.lower_laws.ensures)
 
 pub overflow_sub-self : goal.overflow_sub-self
 overflow_sub-self c =
     let can = c.requires.1 in
     omega (arith, can.shows.reserved, c.places.ensures, places_after c.requires.0 can.ready can.accepted c.args.event can.passes)
+
+pub note-requires-2-clause-few : goal.note-requires-2-clause-few
+note-requires-2-clause-few c =
+    let k = (goal.at.note-requires-2-clause-few c).After-partition_of-partition in
+    omega (arith, c.requires.1.shows.marks.rounds, number-few is_round c.requires.0.past, more k)
 
 pub note-requires-3-clause-count : goal.note-requires-3-clause-count
 note-requires-3-clause-count c =
@@ -73,7 +78,7 @@ returns c =
     let partition = c.partition_of-partition.result in
     let at = about k j can in
     let steps = rw can.items at (c.step_rows.ensures.steps any_row) in
-    let sum = rw (can.shows.totals, c.gain.ensures) at c.plus-self.ensures in
+    let sum = rw can.shows.totals at c.add_gain.ensures in
     record {
       table = ap (λ (x : List Row). take (length j.opening) x) steps ∙ table_after j can.ready can.accepted c.args.event can.passes c.lower_laws.ensures c.args.self.now.rows any_row partition can.shows.table at;
       own_events = c.count_own.ensures j.past c.args.event at can.shows.own_events;
