@@ -28,7 +28,7 @@ use Rattle.jb_program.specs.declared.run.settings.StepSettings.{StepSettings}
 use Rattle.jb_program.specs.declared.streams.error.ProgramError.{ProgramError}
 use Rattle.jb_program.specs.declared.streams.error.ProgramError.TheVariants as failure
 use Rattle.jb_program.specs.inside.LowerLaws.{LowerCrateLaws}
-use Rattle.jb_program.specs.JobRun.{IsStepRefused, IsStepRun, kept_of, plan_for, plan_of_step, settings_of, setup_of, opening_artifacts_of}
+use Rattle.jb_program.specs.JobRun.{IsStepRefused, IsStepReport, kept_of, plan_for, plan_of_step, settings_of, setup_of, opening_artifacts_of}
 use Rattle.jb_program.specs.Refusals.{Explains, RunningRounds}
 use Rattle.jb_program.specs.StepRun.{AreHeld, IsNotBegun, gone_on_from, outputs_of, partitions_left, rows_saved, setup_with, all_opening_artifacts}
 use Rattle.jb_program.proofs.Callbacks.{well-calls}
@@ -101,7 +101,7 @@ pub step-run : LowerCrateLaws → (step : StepRecord) (supply : StepData) (round
     → Headline (run_with prepared artifacts round_limit (map well silent) (map well listened) plans snapshot left) → AreLeftOnTheWay (first_tasks prepared artifacts) snapshot.rows.items left
     → status ≡ status_of snapshot.rows.items false → begun ≡ calls_before (overrides step.spec.replace (rows_saved resume)) → recorded ≡ begun ++ calls_after (status_of snapshot.rows.items false) false
     → id ≡ step.id → heard ≡ calls_of (map well listened) → reducer ≡ calls_of (map well recorded)
-    → IsStepRun step supply round_limit resume (record { id = id; status = status; partitions = partitions_left outputs snapshot.rows.items left; heard = heard; plans = plans; reducer = reducer })
+    → IsStepReport step supply round_limit resume (record { id = id; status = status; partitions = partitions_left outputs snapshot.rows.items left; heard = heard; plans = plans; reducer = reducer })
 step-run below step supply round_limit resume count prepared records outputs settings artifacts snapshot left id status plans heard silent listened reducer begun recorded given records-are settings-are kept are quiet run headline way stands begins calls id-is heard-is reducer-is =
     let s = setup_of step supply resume in
     let theirs = outputs_of (kept_of step resume) in

@@ -17,7 +17,7 @@ use Rattle.jb_texts.specs.Report.{StepReport}
 use Rattle.jb_texts.specs.ReportTokens.{step_tokens}
 use Rattle.jb_program.specs.declared.streams.error.ProgramError.{ProgramError}
 use Rattle.jb_program.specs.declared.streams.error.ProgramError.TheVariants as failure
-use Rattle.jb_program.specs.JobRun.{AreStepRuns, IsRefusedAtStep, IsStepRefused, IsStepRun, earlier, status_in}
+use Rattle.jb_program.specs.JobRun.{AreStepReports, IsRefusedAtStep, IsStepRefused, IsStepReport, earlier, status_in}
 use Rattle.jb_program.specs.Refusals.{Explains, RunningRounds}
 
 same-at : (ranges : List Range) (j : ℕ) (d e : Range) → j < length ranges → get_or ranges j d ≡ get_or ranges j e
@@ -35,7 +35,7 @@ apart-at ranges disjoint i j d e before within =
 -- what these steps leave, where so many tokens were written before and so many behind them
 abbrev pub LeftOf : List (StepRecord × StepData) → Option ℕ → Option Resume → Status → List Token → List Token → Type 0
 LeftOf steps round_limit resume ended before after =
-    (reports : List StepReport) × AreStepRuns steps round_limit resume reports × (ended ≡ status_in (slice_get reports (length reports - 1))) × (after ≡ before ++ flat_map step_tokens reports)
+    (reports : List StepReport) × AreStepReports steps round_limit resume reports × (ended ≡ status_in (slice_get reports (length reports - 1))) × (after ≡ before ++ flat_map step_tokens reports)
 
 abbrev pub Left : List StepRecord → List StepData → Option ℕ → Option Resume → Status → List Token → List Token → Type 0
 Left steps supplies = LeftOf (zip steps supplies)
@@ -52,10 +52,10 @@ last-of report (next ∷ reports) is =
     rw (one, two) refl
 
 pub completed-more : (round_limit : Option ℕ) (resume : Option Resume) (steps rest : List StepRecord) (step : StepRecord) (supplies others : List StepData) (supply : StepData) (report : StepReport) (ended : Status) (before between after : List Token)
-    → steps ≡ step ∷ rest → supplies ≡ supply ∷ others → IsStepRun step supply round_limit resume report → report.status ≡ status.Completed → between ≡ before ++ step_tokens report
+    → steps ≡ step ∷ rest → supplies ≡ supply ∷ others → IsStepReport step supply round_limit resume report → report.status ≡ status.Completed → between ≡ before ++ step_tokens report
     → Left rest others round_limit None ended between after → Left steps supplies round_limit resume ended before after
 completed-more round_limit resume steps rest step supplies others supply report ended before between after steps-are supplies-are run completed written left =
-    let P : List StepRecord → List StepData → Type 0 = λ ss ds. AreStepRuns (zip ss ds) round_limit resume (report ∷ left.0) in
+    let P : List StepRecord → List StepData → Type 0 = λ ss ds. AreStepReports (zip ss ds) round_limit resume (report ∷ left.0) in
     let failed : (report.status ≡ status.Completed → ⊥) → left.0 ≡ [] = λ other. absurd (other completed) in
     let own : P (step ∷ rest) (supply ∷ others) = (run, (λ _. left.1), failed) in (
       report ∷ left.0,
@@ -66,10 +66,10 @@ completed-more round_limit resume steps rest step supplies others supply report 
 
 -- a step that isn't completed is the last one
 pub other-last : (round_limit : Option ℕ) (resume : Option Resume) (steps rest : List StepRecord) (step : StepRecord) (supplies others : List StepData) (supply : StepData) (report : StepReport) (ended : Status) (before between : List Token)
-    → steps ≡ step ∷ rest → supplies ≡ supply ∷ others → IsStepRun step supply round_limit resume report → ended ≡ report.status → (report.status ≡ status.Completed → ⊥) → between ≡ before ++ step_tokens report
+    → steps ≡ step ∷ rest → supplies ≡ supply ∷ others → IsStepReport step supply round_limit resume report → ended ≡ report.status → (report.status ≡ status.Completed → ⊥) → between ≡ before ++ step_tokens report
     → Left steps supplies round_limit resume ended before between
 other-last round_limit resume steps rest step supplies others supply report ended before between steps-are supplies-are run same other written =
-    let P : List StepRecord → List StepData → Type 0 = λ ss ds. AreStepRuns (zip ss ds) round_limit resume (report ∷ []) in
+    let P : List StepRecord → List StepData → Type 0 = λ ss ds. AreStepReports (zip ss ds) round_limit resume (report ∷ []) in
     let own : P (step ∷ rest) (supply ∷ others) = (run, (λ completed. absurd (other completed)), (λ _. refl)) in (
       report ∷ [],
       subst (λ ss. P ss supplies) (sym steps-are) (subst (λ ds. P (step ∷ rest) ds) (sym supplies-are) own),
@@ -87,7 +87,7 @@ first-refused round_limit resume steps rest step supplies others supply e steps-
     inr (subst (λ ss. IsRefusedAtStep (zip ss supplies) round_limit resume e) (sym steps-are) (subst (λ ds. IsRefusedAtStep (zip (step ∷ rest) ds) round_limit resume e) (sym supplies-are) (inl refused)))
 
 pub later-refused : (round_limit : Option ℕ) (resume : Option Resume) (steps rest : List StepRecord) (step : StepRecord) (supplies others : List StepData) (supply : StepData) (report : StepReport) (e : ProgramError)
-    → steps ≡ step ∷ rest → supplies ≡ supply ∷ others → IsStepRun step supply round_limit resume report → report.status ≡ status.Completed
+    → steps ≡ step ∷ rest → supplies ≡ supply ∷ others → IsStepReport step supply round_limit resume report → report.status ≡ status.Completed
     → Explains RunningRounds e ⊎ IsRefusedAtStep (zip rest others) round_limit None e → Explains RunningRounds e ⊎ IsRefusedAtStep (zip steps supplies) round_limit resume e
 later-refused round_limit resume steps rest step supplies others supply report e steps-are supplies-are run completed (inl broken) = inl broken
 later-refused round_limit resume steps rest step supplies others supply report e steps-are supplies-are run completed (inr refused) =
@@ -139,14 +139,14 @@ no-pairs : (steps : List StepRecord) → zip {X = StepData} steps [] ≡ []
 no-pairs [] = refl
 no-pairs (step ∷ steps) = refl
 
-none-runs : (n : ℕ) (steps : List (StepRecord × StepData)) (round_limit : Option ℕ) (resume : Option Resume) → steps ≡ [] → AreStepRuns (drop n steps) round_limit resume []
+none-runs : (n : ℕ) (steps : List (StepRecord × StepData)) (round_limit : Option ℕ) (resume : Option Resume) → steps ≡ [] → AreStepReports (drop n steps) round_limit resume []
 none-runs n steps round_limit resume none =
-    subst (λ (ss : List (StepRecord × StepData)). AreStepRuns ss round_limit resume []) (sym (ap (drop n) none ∙ drop-nil n)) refl
+    subst (λ (ss : List (StepRecord × StepData)). AreStepReports ss round_limit resume []) (sym (ap (drop n) none ∙ drop-nil n)) refl
 
-pub no-data : (n : ℕ) (steps : List StepRecord) (supplies : List StepData) (round_limit : Option ℕ) (resume : Option Resume) → length supplies ≡ 0 → AreStepRuns (drop n (zip steps supplies)) round_limit resume []
+pub no-data : (n : ℕ) (steps : List StepRecord) (supplies : List StepData) (round_limit : Option ℕ) (resume : Option Resume) → length supplies ≡ 0 → AreStepReports (drop n (zip steps supplies)) round_limit resume []
 no-data n steps supplies round_limit resume none =
     none-runs n (zip steps supplies) round_limit resume (ap (zip steps) (nil_from_length supplies none) ∙ no-pairs steps)
 
-pub no-steps : (id : List ℕ) (steps : List StepRecord) (supplies : List StepData) (round_limit : Option ℕ) (resume : Option Resume) → length steps ≡ 0 → AreStepRuns (drop (earlier id steps) (zip steps supplies)) round_limit resume []
+pub no-steps : (id : List ℕ) (steps : List StepRecord) (supplies : List StepData) (round_limit : Option ℕ) (resume : Option Resume) → length steps ≡ 0 → AreStepReports (drop (earlier id steps) (zip steps supplies)) round_limit resume []
 no-steps id steps supplies round_limit resume none =
     none-runs (earlier id steps) (zip steps supplies) round_limit resume (ap (λ (ss : List StepRecord). zip ss supplies) (nil_from_length steps none))

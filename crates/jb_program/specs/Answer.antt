@@ -12,7 +12,7 @@ use Rattle.jb_program.specs.declared.words.request.Request.TheVariants.{Help, Ve
 use Rattle.jb_program.specs.declared.words.request.Word.{Word}
 use Rattle.jb_program.specs.declared.words.request.Word.TheVariants.{Run, Restart, Plan, Check}
 use Rattle.jb_program.specs.Help.{help_text, version_text}
-use Rattle.jb_program.specs.RunWord.{IsRefusedPlan, IsRun, IsRunFront}
+use Rattle.jb_program.specs.RunWord.{IsRefusedPlan, IsReported, IsRunFront}
 use Rattle.jb_program.specs.RestartWord.{IsRefusedRestartStep, IsRefusedSaved, IsRestarted, IsRestartFront}
 use Rattle.jb_program.specs.PlanWord.{IsPlanned, IsPlanFront}
 use Rattle.jb_program.specs.CheckWord.{IsCheckAnswer, IsCheckFront}
@@ -22,7 +22,7 @@ use Rattle.jb_program.specs.declared.streams.error.ProgramError.TheVariants as f
 
 -- The writer holds what the word makes of the document, and the status is the answer's.
 abbrev pub IsPerformedAnswer : Word → (round_limit : Option ℕ) → (input old new : Option (List ℕ)) → (status : ℕ) → Type 0
-IsPerformedAnswer Run round_limit input old new status = (status < 3) × IsRun round_limit input old new status
+IsPerformedAnswer Run round_limit input old new status = (status < 3) × IsReported round_limit input old new status
 IsPerformedAnswer Restart round_limit input old new status = (status < 3) × IsRestarted round_limit input old new status
 IsPerformedAnswer Plan round_limit input old new status = (status ≡ 0) × IsPlanned input old new
 IsPerformedAnswer Check round_limit input old new status = (status < 2) × IsCheckAnswer input old new status

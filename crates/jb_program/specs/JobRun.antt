@@ -54,7 +54,7 @@ opening_artifacts_of step supply resume = all_opening_artifacts (settings_of ste
 
 -- The step's plan can be run, and nothing is wrong with the rows that it resumes from or overrides. Its report is of a run of it: each
 -- partition left what it leaves by itself. The plans, what was heard, the reducer's calls and the status are the run's.
-pub record IsStepRun (step : StepRecord) (supply : StepData) (round_limit : Option ℕ) (resume : Option Resume) (report : StepReport) : Type 0 where
+pub record IsStepReport (step : StepRecord) (supply : StepData) (round_limit : Option ℕ) (resume : Option Resume) (report : StepReport) : Type 0 where
   pub runnable : IsRunnable (length supply.records) (plan_of_step step supply)
   pub accepted : saved_faults step (length supply.records) step.spec.replace (rows_saved resume) ≡ []
   pub id : report.id ≡ step.id
@@ -69,12 +69,12 @@ IsStepRefused step supply resume e = IsNotBegun step (length supply.records) (pl
 
 -- These are the reports of the steps, each of which comes with its data: a step runs exactly if all before it are completed.
 -- The first may resume from what the run before left, the others begin from the start. The limit is that of each step by itself.
-abbrev pub AreStepRuns : List (StepRecord × StepData) → (round_limit : Option ℕ) → Option Resume → List StepReport → Type 0
-AreStepRuns [] round_limit resume reports = reports ≡ []
-AreStepRuns ((step, supply) ∷ steps) round_limit resume [] = ⊥
-AreStepRuns ((step, supply) ∷ steps) round_limit resume (report ∷ reports) =
-    IsStepRun step supply round_limit resume report
-    × (report.status ≡ Completed → AreStepRuns steps round_limit None reports)
+abbrev pub AreStepReports : List (StepRecord × StepData) → (round_limit : Option ℕ) → Option Resume → List StepReport → Type 0
+AreStepReports [] round_limit resume reports = reports ≡ []
+AreStepReports ((step, supply) ∷ steps) round_limit resume [] = ⊥
+AreStepReports ((step, supply) ∷ steps) round_limit resume (report ∷ reports) =
+    IsStepReport step supply round_limit resume report
+    × (report.status ≡ Completed → AreStepReports steps round_limit None reports)
     × ((report.status ≡ Completed → ⊥) → reports ≡ [])
 
 -- A step that follows on completed ones is refused so.
@@ -82,7 +82,7 @@ abbrev pub IsRefusedAtStep : List (StepRecord × StepData) → (round_limit : Op
 IsRefusedAtStep [] round_limit resume e = ⊥
 IsRefusedAtStep ((step, supply) ∷ steps) round_limit resume e =
     IsStepRefused step supply resume e
-    ⊎ ((report : StepReport) × IsStepRun step supply round_limit resume report × (report.status ≡ Completed) × IsRefusedAtStep steps round_limit None e)
+    ⊎ ((report : StepReport) × IsStepReport step supply round_limit resume report × (report.status ≡ Completed) × IsRefusedAtStep steps round_limit None e)
 
 -- ---- the job
 
@@ -91,9 +91,9 @@ status_in None = Completed
 status_in (Some report) = report.status
 
 -- The job's status is that of its last step that ran.
-pub record IsJobRun (document : Document) (round_limit : Option ℕ) (report : Report) : Type 0 where
+pub record IsJobReport (document : Document) (round_limit : Option ℕ) (report : Report) : Type 0 where
   pub job : report.job ≡ document.job.id
-  pub steps : AreStepRuns (zip document.job.steps document.step_data) round_limit None report.steps
+  pub steps : AreStepReports (zip document.job.steps document.step_data) round_limit None report.steps
   pub ended : report.status ≡ status_in (slice_get report.steps (length report.steps - 1))
 
 -- ---- its restart
@@ -111,7 +111,7 @@ done_before document = earlier document.resume.saved.step document.job.steps
 -- before left, and the later ones run as usual.
 pub record IsRestartRun (document : RestartDocument) (round_limit : Option ℕ) (report : Report) : Type 0 where
   pub job : report.job ≡ document.job.id
-  pub steps : AreStepRuns (drop (done_before document) (zip document.job.steps document.step_data)) round_limit (Some document.resume) report.steps
+  pub steps : AreStepReports (drop (done_before document) (zip document.job.steps document.step_data)) round_limit (Some document.resume) report.steps
   pub ended : report.status ≡ status_in (slice_get report.steps (length report.steps - 1))
 
 -- A step that comes to its turn is refused so.

@@ -9,16 +9,16 @@ use Rattle.jb_texts.specs.Front.{AppendsFront}
 use Rattle.jb_texts.specs.Report.{Report, report_text}
 use Rattle.jb_texts.specs.Statuses.{status_code}
 use Rattle.jb_program.specs.declared.streams.error.ProgramError.TheVariants as failure
-use Rattle.jb_program.specs.JobRun.{IsJobRun, IsRefusedAtStep}
+use Rattle.jb_program.specs.JobRun.{IsJobReport, IsRefusedAtStep}
 
 -- the report is what the run of the bytes' document leaves, each step in no more rounds than the limit
 pub record IsReportOf (round_limit : Option ℕ) (report : Report) (bytes : List ℕ) : Type 0 where
   pub document : Document
   pub read : IsDocument bytes document
-  pub ran : IsJobRun document round_limit report
+  pub ran : IsJobReport document round_limit report
 
 -- The writer holds one report more, of the document that the reader's bytes are, and the exit status is the job's.
-pub record IsRun (round_limit : Option ℕ) (input old new : Option (List ℕ)) (status : ℕ) : Type 0 where
+pub record IsReported (round_limit : Option ℕ) (input old new : Option (List ℕ)) (status : ℕ) : Type 0 where
   pub report : Report
   pub written : Appends old new (report_text report)
   pub ended : status ≡ status_code report.status

@@ -18,7 +18,7 @@ use Rattle.jb_saved.specs.GoingOn.{fault_if, ends_past, step_faults}
 use Rattle.jb_saved.specs.SavedRows.{SavedRows}
 use Rattle.jb_step.specs.Answers.{IsRunError}
 use Rattle.jb_records.specs.declared.error.RecordsStepError.{RecordsStepError}
-use Rattle.jb_records.specs.declared.error.RecordsStepError.TheVariants.{Memory, Records, Results, SkippedTry, Step}
+use Rattle.jb_records.specs.declared.error.RecordsStepError.TheVariants.{Records, Step}
 use Rattle.jb_records.specs.declared.step.RecordsStep.{RecordsStep}
 use Rattle.jb_records.specs.Made.{even_partitions}
 use Rattle.jb_records.specs.Causes.{Explains, Run, RunInterval, Unseen, prepare_evenly}

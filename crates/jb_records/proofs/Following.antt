@@ -127,7 +127,7 @@ finished-pass f rules records rows partition_results so-far follow whole = all-p
 
 -- ---- FAILED ROWS
 
-failed-is : (st : RowState) → is_failed st ≡ true → st ≡ state.Failed
+pub failed-is : (st : RowState) → is_failed st ≡ true → st ≡ state.Failed
 failed-is state.Waiting e = absurd cc
 failed-is (state.Running lane) e = absurd cc
 failed-is state.Finished e = absurd cc

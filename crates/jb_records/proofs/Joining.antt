@@ -46,7 +46,7 @@ share-whole f records row whole order =
     ∙ same-on (λ k. result_of f (record_of row.lo own k)) (λ k. result_of f (record_of 0 records k)) (row.hi - row.lo) row.lo
     (λ k from to. ap (result_of f) (own-record records row.lo row.hi k from (omega (arith, order, to))))
 
-order-rises : (from to : ℕ) (rows : List Row) → AreRowsInOrder from to rows → from ≤ to
+pub order-rises : (from to : ℕ) (rows : List Row) → AreRowsInOrder from to rows → from ≤ to
 order-rises from to [] order = omega (arith, order)
 order-rises from to (row ∷ rows) order = let here = order.1 in let later = order-rises row.hi to rows order.2 in omega (arith, here, later)
 

@@ -9,12 +9,12 @@ mod Causes
 mod Counting
 mod EachRow
 mod Ending
-mod Evenly
-mod Following
+pub mod Evenly
+pub mod Following
 mod Going
 mod Growing
 mod Items
-mod Joining
+pub mod Joining
 mod Keeping
 mod Leading
 mod LeavingOut

@@ -20,13 +20,14 @@ use Rattle.jb_records.specs.FollowingLaws.{RaisedRulesFollow, RangesStay, RulesA
 use Rattle.jb_records.specs.Function.{Function, IsSteady}
 use Rattle.jb_records.specs.Runs.{PartsStay, ResultsGoOn}
 use Rattle.jb_records.specs.PartitionResults.{AreRowsInOrder, IsSoFar, newer_partition_results}
+use Rattle.jb_records.specs.StepRuns.{IsStepRunOf}
 use Rattle.jb_records.specs.Steps.{AreArtifacts, StepsKeepResults}
 use Rattle.jb_records.specs.Intervals.{AreFurther, HasGoneOn, IsIntervalRun, RunState, StandsOver, grown, numbers_in, artifacts_in}
 use Rattle.jb_records.specs.inside.Calls.{CanBeginOver}
-use Rattle.jb_records.specs.inside.InMemory.{IsGoingOn, IsRanOver, RowsAreSaved, IntervalsGoOn, ArtifactsFit, is_done, is_left, new_results_from}
+use Rattle.jb_records.specs.inside.InMemory.{IsGoingOn, RowsAreSaved, IntervalsGoOn, ArtifactsFit, is_done, is_left, new_results_from}
 use Rattle.jb_records.proofs.Ahead.{GoAhead, IsAhead, rows-ahead}
 use Rattle.jb_records.proofs.Calling.{artifacts-fit}
-use Rattle.jb_records.proofs.Ending.{led, led-following, led-ranges}
+use Rattle.jb_records.proofs.Ending.{came-back, led, led-following, led-ranges, rows-ran}
 use Rattle.jb_records.proofs.Following.{same-raised}
 use Rattle.jb_records.proofs.Growing.{grown-all, new_results-length}
 use Rattle.jb_records.proofs.Keeping.{AreDone, all-done, newer-again, newer-parts, artifacts-kept}
@@ -86,12 +87,18 @@ none-past from to (row ∷ rows) order =
 module _ (going : ResultsGoOn) (parts : PartsStay) (begins : BeginsWithTasks) (same : BeginsWithRows) (kept : StepsKeepResults) (ahead : GoAhead)
     (ruled : RulesAreKept) (raised : RaisedRulesFollow) (rangesare : RangesStay) where
   module _ (f : Function) (records : List (List ℕ)) (before : RunState) (rounds : Option ℕ) (snapshot : Snapshot) (left : List (ℕ × ArtifactsMeaning))
-      (stands : StandsOver f records before) (ran : IsRanOver before.setup (artifacts_in before.artifacts) rounds snapshot left) where
+      (stands : StandsOver f records before) (ran : IsStepRunOf before.setup (artifacts_in before.artifacts) rounds snapshot left) where
     abbrev first : List TaskState
     first = first_tasks before.setup (artifacts_in before.artifacts)
 
     abbrev now : List TaskState
     now = tasks_left first snapshot.rows.items left
+
+    left-rows : snapshot.rows.items ≡ rows_now before.setup.rows now
+    left-rows = rows-ran before.setup (artifacts_in before.artifacts) rounds snapshot left ran
+
+    left-back : left ≡ artifacts_of now
+    left-back = came-back before.setup (artifacts_in before.artifacts) rounds snapshot left ran
 
     ready : AreTasksOf before.setup first
     ready = (begins before.setup (artifacts_in before.artifacts) stands.setup ran.fit).tasks
@@ -120,12 +127,12 @@ module _ (going : ResultsGoOn) (parts : PartsStay) (begins : BeginsWithTasks) (s
 
     aheads : Pairwise IsAhead before.setup.rows snapshot.rows.items
     aheads =
-        subst (Pairwise IsAhead before.setup.rows) (sym ran.rows)
+        subst (Pairwise IsAhead before.setup.rows) (sym left-rows)
         (subst (λ (rows : List Row). Pairwise IsAhead rows (rows_now before.setup.rows now)) (same before.setup (artifacts_in before.artifacts) ran.fit)
         (rows-ahead ahead parts before.setup first now 0 before.setup.rows ready ran.ways))
 
     stay : Pairwise Stays before.setup.rows snapshot.rows.items
-    stay = subst (Pairwise Stays before.setup.rows) (sym ran.rows) (rows-stay now 0 before.setup.rows (sym (numbers-left now) ∙ named))
+    stay = subst (Pairwise Stays before.setup.rows) (sym left-rows) (rows-stay now 0 before.setup.rows (sym (numbers-left now) ∙ named))
 
     here : {A : Type 0} (xs : List A) (i : ℕ) (x : A) → slice_get xs i ≡ Some x → slice_get xs (0 + i) ≡ Some x
     here xs i x get = let e : i ≡ 0 + i = omega arith in subst (λ m. slice_get xs m ≡ Some x) e get
@@ -146,7 +153,7 @@ module _ (going : ResultsGoOn) (parts : PartsStay) (begins : BeginsWithTasks) (s
       partition_results-now =
           on.partition_results_are
           ∙ newer-parts rows left results
-          ∙ sym (newer-again left before.artifacts results (ap numbers_in ran.came_back ∙ named ∙ sym stands.partitions))
+          ∙ sym (newer-again left before.artifacts results (ap numbers_in left-back ∙ named ∙ sym stands.partitions))
           ∙ ap (newer_partition_results left) (sym held)
 
       so-far-now : IsSoFar f records rows after.partition_results
@@ -154,7 +161,7 @@ module _ (going : ResultsGoOn) (parts : PartsStay) (begins : BeginsWithTasks) (s
 
       kept-artifacts : (numbers_in (filter (is_left rows) left) ≡ left-numbers 0 (map restarted rows)) × AreArtifacts f before.setup.rules records after.partition_results (unfinished (map restarted rows)) (artifacts_in (filter (is_left rows) left))
       kept-artifacts =
-          subst (λ (ls : List (ℕ × ArtifactsMeaning)). (numbers_in (filter (is_left rows) ls) ≡ left-numbers 0 (map restarted rows)) × AreArtifacts f before.setup.rules records after.partition_results (unfinished (map restarted rows)) (artifacts_in (filter (is_left rows) ls))) (sym ran.came_back)
+          subst (λ (ls : List (ℕ × ArtifactsMeaning)). (numbers_in (filter (is_left rows) ls) ≡ left-numbers 0 (map restarted rows)) × AreArtifacts f before.setup.rules records after.partition_results (unfinished (map restarted rows)) (artifacts_in (filter (is_left rows) ls))) (sym left-back)
           (artifacts-kept f records before.setup rows after.partition_results 0 before.setup.rows rows after.partition_results now named stay so-far-now.each (here rows) (here after.partition_results) done)
 
       abbrev held-rows : SavedRows
@@ -179,7 +186,7 @@ module _ (going : ResultsGoOn) (parts : PartsStay) (begins : BeginsWithTasks) (s
         so_far = so-far-now;
         partition_results_are = grown-all f records before.setup rows 0 before.setup.rows rows before.partition_results after.partition_results now named aheads stay
             (λ i row get. (stands.setup.openable.idle i row get).0.placed.at_from) stands.so_far.each so-far-now.each (here rows) done
-            ∙ ap (λ (ls : List (ℕ × ArtifactsMeaning)). grown before.partition_results (new_results_from 0 (map (λ row. row.written) before.setup.rows) ls)) (sym ran.came_back);
+            ∙ ap (λ (ls : List (ℕ × ArtifactsMeaning)). grown before.partition_results (new_results_from 0 (map (λ row. row.written) before.setup.rows) ls)) (sym left-back);
         number = new_results-length 0 (map (λ row. row.written) before.setup.rows) left ∙ length-written_before before.setup.rows ∙ sym (same-length before.setup.rows rows aheads);
         same = same-length before.setup.rows rows aheads;
         ranges = led-ranges before.setup (artifacts_in before.artifacts) rounds snapshot left ran stands.setup rangesare;
@@ -214,7 +221,7 @@ module _ (going : ResultsGoOn) (parts : PartsStay) (begins : BeginsWithTasks) (s
 
 pub goes-on : IntervalsGoOn → (f : Function) (records : List (List ℕ)) (before after : RunState) (results : List (List (List ℕ))) (rounds : Option ℕ) (snapshot : Snapshot) (shown : List Row) (left brought finished others : List (ℕ × ArtifactsMeaning))
     → (put new_results : List (List (List ℕ))) (written_before : List ℕ) (rules : RulesRecord) → StandsOver f records before → before.partition_results ≡ newer_partition_results before.artifacts results
-    → IsRanOver before.setup (artifacts_in before.artifacts) rounds snapshot left → rules ≡ before.setup.rules → shown ≡ snapshot.rows.items → finished ≡ filter (is_done shown) left → others ≡ filter (is_left shown) left → put ≡ newer_partition_results finished results
+    → IsStepRunOf before.setup (artifacts_in before.artifacts) rounds snapshot left → rules ≡ before.setup.rules → shown ≡ snapshot.rows.items → finished ≡ filter (is_done shown) left → others ≡ filter (is_left shown) left → put ≡ newer_partition_results finished results
     → IsGoingOn before.step before.records rules snapshot.rows.items others put after → written_before ≡ map (λ row. row.written) before.setup.rows → brought ≡ left → new_results ≡ new_results_from 0 written_before brought
     → HasGoneOn f records before after snapshot.rows.items new_results
 goes-on law f records before after results rounds snapshot shown left brought finished others put new_results written_before rules stands held ran ruled same done kept is on was back new =
@@ -229,17 +236,11 @@ goes-on law f records before after results rounds snapshot shown left brought fi
     subst (HasGoneOn f records before after ends) (sym written_before-is) gone
 
 pub made-of : (before after : RunState) (rounds : Option ℕ) (snapshot : Snapshot) (left others : List (ℕ × ArtifactsMeaning)) (put : List (List (List ℕ))) (rules : RulesRecord)
-    → IsRanOver before.setup (artifacts_in before.artifacts) rounds snapshot left → IsGoingOn before.step before.records rules snapshot.rows.items others put after
+    → IsStepRunOf before.setup (artifacts_in before.artifacts) rounds snapshot left → IsGoingOn before.step before.records rules snapshot.rows.items others put after
     → rules ≡ before.setup.rules → after.setup.item_count ≡ before.setup.item_count → IsIntervalRun rounds before snapshot after
 made-of before after rounds snapshot left others put rules ran on ruled counted = record {
-  run = ran.run;
-  setup = ran.setup;
-  rounds_are = ran.rounds_are;
-  artifacts = ran.artifacts_are;
-  answered = ran.answered;
-  headline = ran.headline;
-  on_the_way = ran.on_the_way;
-  snapshot_is = ran.snapshot_is;
+  left = left;
+  run = ran;
   rows = on.rows_are;
   step_is = on.step_is;
   rules_are = on.rules_are ∙ ruled;

@@ -118,10 +118,10 @@ DontFit (Run Fit) = Fit → ⊥
 DontFit _ = ⊥
 
 -- it has a desk and workers
-abbrev pub IsRun : Phase → Type 0
-IsRun (Prepare step records plan saved results) = ⊥
-IsRun (Make f rules first records) = ⊥
-IsRun _ = ⊤
+abbrev pub HasDesk : Phase → Type 0
+HasDesk (Prepare step records plan saved results) = ⊥
+HasDesk (Make f rules first records) = ⊥
+HasDesk _ = ⊤
 
 -- it calls the step, which may be out of memory
 abbrev pub CallsStep : Phase → Type 0
@@ -138,8 +138,8 @@ Explains phase SkippedTry = IsTrySkipped phase
 Explains phase (Step (error.Plan fault)) = IsPlanFault phase fault
 Explains phase (Step (error.Saved place)) = IsSavedFault phase place
 Explains phase (Step error.WrongArtifacts) = DontFit phase
-Explains phase (Step (error.Repository partition)) = IsRun phase
-Explains phase (Step error.Workers) = IsRun phase
+Explains phase (Step (error.Repository partition)) = HasDesk phase
+Explains phase (Step error.Workers) = HasDesk phase
 Explains phase (Step error.Memory) = CallsStep phase
 Explains phase (Step _) = ⊥
 Explains phase Memory = ⊤

@@ -9,15 +9,12 @@ use Rattle.jb_rules.specs.declared.row.Row.{Row}
 use Rattle.jb_saved.specs.GoingOn.{rows_restarted}
 use Rattle.jb_saved.specs.Reading.{answer_of}
 use Rattle.jb_saved.specs.SavedRows.{SavedRows}
-use Rattle.jb_step.specs.Alone.{AreOnTheWay}
-use Rattle.jb_step.specs.Answers.{StepRun, tasks_after, tasks_before}
-use Rattle.jb_step.specs.Headline.{Headline}
 use Rattle.jb_step.specs.preparing.Setup.{IsSetup, Setup, needs, unfinished}
-use Rattle.jb_step.specs.restarts.StepRuns.{IsAnswered}
 use Rattle.jb_records.specs.declared.step.RecordsStep.{RecordsStep}
 use Rattle.jb_records.specs.Following.{FollowRules, ranges_of}
 use Rattle.jb_records.specs.Function.{Function, IsSteady}
 use Rattle.jb_records.specs.PartitionResults.{AreNumbered, AreAtTheirEnds, IsSoFar, joined}
+use Rattle.jb_records.specs.StepRuns.{IsStepRunOf}
 use Rattle.jb_records.specs.Steps.{AreArtifacts}
 
 -- ---- THE STATE OF A RUN
@@ -94,17 +91,11 @@ pub record HasGoneOn (f : Function) (records : List (List ℕ)) (before after : 
   pub follows : IsSteady f → FollowRules f before.setup.rules records rows
   pub stands : StandsOver f records after
 
--- What was run: `run_step` answered for this setup and these artifacts, and its `Headline` holds. The next interval resumes from the rows
--- that it left, of which the failed ones wait again, by the same rules.
+-- What was run: the step of this setup, over these artifacts. The next interval resumes from the rows that it left, of which the failed ones
+-- wait again, by the same rules.
 pub record IsIntervalRun (rounds : Option ℕ) (before : RunState) (snapshot : Snapshot) (after : RunState) : Type 0 where
-  pub run : StepRun
-  pub setup : run.setup ≡ before.setup
-  pub rounds_are : run.round_limit ≡ rounds
-  pub artifacts : run.artifacts ≡ artifacts_in before.artifacts
-  pub answered : IsAnswered run
-  pub headline : Headline run
-  pub on_the_way : AreOnTheWay (tasks_before run) (tasks_after run)
-  pub snapshot_is : run.snapshot ≡ snapshot
+  pub left : List (ℕ × ArtifactsMeaning)
+  pub run : IsStepRunOf before.setup (artifacts_in before.artifacts) rounds snapshot left
   pub rows : after.setup.rows ≡ rows_restarted (record { step = before.step; rows = snapshot.rows.items })
   pub step_is : after.step ≡ before.step
   pub rules_are : after.setup.rules ≡ before.setup.rules

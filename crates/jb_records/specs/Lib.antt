@@ -9,6 +9,7 @@ pub mod Refusals
 pub mod Runs
 pub mod PartitionResults
 pub mod Skips
+pub mod StepRuns
 pub mod Steps
 pub mod Intervals
 pub mod Artifacts

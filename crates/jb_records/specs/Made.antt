@@ -1,5 +1,6 @@
 -- The run that is made of a step over records.
 use Rattle.std.specs.Prelude.{ℕ, ◌≡◌, false, List, [], length, Option, None, Some, Ok}
+use Rattle.jb_artifacts.specs.Meaning.{ArtifactsMeaning}
 use Rattle.jb_job.specs.Reading.{tree_of}
 use Rattle.jb_job.specs.Records.{StepRecord}
 use Rattle.jb_mapper.specs.EvenCover.{even_ranges}
@@ -7,15 +8,12 @@ use Rattle.jb_plan.specs.declared.plan.PartitionPlan.{PartitionPlan}
 use Rattle.jb_repo.specs.declared.snapshot.Snapshot.{Snapshot}
 use Rattle.jb_saved.specs.Reading.{answer_of}
 use Rattle.jb_saved.specs.SavedRows.{SavedRows}
-use Rattle.jb_step.specs.Alone.{AreOnTheWay}
-use Rattle.jb_step.specs.Answers.{StepRun, tasks_after, tasks_before}
-use Rattle.jb_step.specs.Headline.{Headline}
 use Rattle.jb_step.specs.preparing.Prepare.{IsPreparation}
 use Rattle.jb_step.specs.preparing.Setup.{IsSetup, Setup, unfinished}
-use Rattle.jb_step.specs.restarts.StepRuns.{IsAnswered}
 use Rattle.jb_records.specs.declared.step.RecordsStep.{RecordsStep}
 use Rattle.jb_records.specs.Function.{Function}
 use Rattle.jb_records.specs.PartitionResults.{AreNumbered, joined, newer_partition_results}
+use Rattle.jb_records.specs.StepRuns.{IsStepRunOf}
 use Rattle.jb_records.specs.Steps.{AreFirstArtifacts}
 
 -- ---- HOW IT BEGINS
@@ -53,23 +51,18 @@ pub record IsBegunBehind (step : RecordsStep) (records : ℕ) (earlier : Option 
 
 -- ---- WHAT WAS RUN
 
--- A run of the step that was prepared so, in so many rounds at most. Each unfinished partition began with its own records, its share, and
--- the first tries that the function has for its records. All that `run_step` says of it holds: its plans, and where they left each
--- partition (`headline`). These are its rows, and the results in its writers.
-pub record IsRunMade (f : Function) (records : List (List ℕ)) (rounds : Option ℕ) (s : Setup) (partition_results : List (List (List ℕ))) (snapshot : Snapshot) (results : List (List (List ℕ))) : Type 0 where
-  pub run : StepRun
-  pub setup : run.setup ≡ s
-  pub rounds_are : run.round_limit ≡ rounds
-  pub artifacts : AreFirstArtifacts f s.rules records partition_results (unfinished s.rows) run.artifacts
-  pub answered : IsAnswered run
-  pub headline : Headline run
-  pub on_the_way : AreOnTheWay (tasks_before run) (tasks_after run)
-  pub snapshot_is : run.snapshot ≡ snapshot
-  pub results_are : results ≡ newer_partition_results run.left partition_results
+-- The step that was prepared so has run over the records, in so many rounds at most. Each unfinished partition began with its own records,
+-- its share, and the first tries that the function has for its records. These are the rows, and the results in the writers.
+pub record HasRunOver (f : Function) (records : List (List ℕ)) (rounds : Option ℕ) (s : Setup) (partition_results : List (List (List ℕ))) (snapshot : Snapshot) (results : List (List (List ℕ))) : Type 0 where
+  pub artifacts : List ArtifactsMeaning
+  pub first : AreFirstArtifacts f s.rules records partition_results (unfinished s.rows) artifacts
+  pub left : List (ℕ × ArtifactsMeaning)
+  pub run : IsStepRunOf s artifacts rounds snapshot left
+  pub results_are : results ≡ newer_partition_results left partition_results
 
 -- THE RUN OF A STEP OVER RECORDS, from the start or resuming an earlier one
-pub record IsRecordsRun (f : Function) (step : RecordsStep) (records : List (List ℕ)) (earlier : Option (List ℕ × List (List ℕ))) (rounds : Option ℕ) (snapshot : Snapshot) (results : List (List (List ℕ))) : Type 0 where
+pub record IsRunOfRecords (f : Function) (step : RecordsStep) (records : List (List ℕ)) (earlier : Option (List ℕ × List (List ℕ))) (rounds : Option ℕ) (snapshot : Snapshot) (results : List (List (List ℕ))) : Type 0 where
   pub setup : Setup
   pub partition_results : List (List (List ℕ))
   pub begun : IsBegunBehind step (length records) earlier setup partition_results
-  pub made : IsRunMade f records rounds setup partition_results snapshot results
+  pub made : HasRunOver f records rounds setup partition_results snapshot results

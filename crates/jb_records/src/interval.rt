@@ -18,7 +18,8 @@ ghost use Rattle.jb_records.specs.Made.{even_partitions};
 ghost use Rattle.jb_records.specs.PartitionResults.{AreAtTheirEnds};
 ghost use Rattle.jb_records.specs.Skips.{skipped_of};
 ghost use Rattle.jb_records.specs.Intervals.{HasGoneOn, IsIntervalRun, StandsOver, artifacts_in};
-ghost use Rattle.jb_records.specs.inside.InMemory.{IsGoingOn, IsRanOver};
+ghost use Rattle.jb_records.specs.StepRuns.{IsStepRunOf};
+ghost use Rattle.jb_records.specs.inside.InMemory.{IsGoingOn};
 
 use crate::artifacts::RecordsArtifacts;
 use crate::error::RecordsStepError;
@@ -89,7 +90,7 @@ pub(crate) fn ran<
     requires name { blank.name ≡ L.name }
     requires parts { blank.parts ≡ L.parts }
     requires all { blank.parts ≡ max_parts }
-    ensures ran { IfOk result (λ end. IsRanOver prepared (artifacts_in (given_back ⟦<RecordsArtifacts<F> as Meaning>⟧.meaning artifacts.items)) rounds end.snapshot (given_back ⟦<RecordsArtifacts<F> as Meaning>⟧.meaning end.artifacts.items)) }
+    ensures ran { IfOk result (λ end. IsStepRunOf prepared (artifacts_in (given_back ⟦<RecordsArtifacts<F> as Meaning>⟧.meaning artifacts.items)) rounds end.snapshot (given_back ⟦<RecordsArtifacts<F> as Meaning>⟧.meaning end.artifacts.items)) }
     ensures status { IfOk result (λ end. end.status ≡ status_of end.snapshot.rows.items false) }
     ensures why { IfErr result (Explains (Run (DoFit prepared (artifacts_in (given_back ⟦<RecordsArtifacts<F> as Meaning>⟧.meaning artifacts.items))))) }
 {

@@ -15,7 +15,7 @@ ghost use Rattle.jb_records.specs.Causes.{Call, Explains, Joined, RunInterval};
 ghost use Rattle.jb_records.specs.Intervals.{artifacts_in};
 ghost use Rattle.jb_records.specs.inside.Following.{GoesOnByRules, IsFresh};
 ghost use Rattle.jb_records.specs.inside.InMemory.{HasEnded, IsAsPrepared};
-ghost use Rattle.jb_records.specs.Made.{IsBegunBehind, IsRecordsRun};
+ghost use Rattle.jb_records.specs.Made.{IsBegunBehind, IsRunOfRecords};
 ghost use Rattle.jb_records.specs.PartitionResults.{IsSoFar, joined};
 ghost use Rattle.jb_records.specs.Skips.{AreCounted};
 
@@ -70,7 +70,7 @@ pub fn run_records<F: StepFunction + Drop + 'static, R: Threads + Wait + Sync>(
     rounds: Option<u64>,
 ) -> Result<RecordsEnd, RecordsStepError>
     ensures why { IfErr result (Explains (Call (F.function function) step.now records.now (option_map (λ e. (e.saved.now, Joined e.results.now)) earlier.entry))) }
-    ensures run { IfOk result (λ end. IsRecordsRun (F.function function) step.now records.now (option_map (λ e. (e.saved.now, e.results.now)) earlier.entry) rounds end.snapshot end.results.items) }
+    ensures run { IfOk result (λ end. IsRunOfRecords (F.function function) step.now records.now (option_map (λ e. (e.saved.now, e.results.now)) earlier.entry) rounds end.snapshot end.results.items) }
     ensures status { IfOk result (λ end. end.status ≡ status_of end.snapshot.rows.items false) }
     ensures failures { IfOk result (λ end. AreFailures (F.function function) step.now.rules step.now.item_count records.now end.snapshot.rows.items end.failures.items) }
     ensures counted { earlier.entry ≡ None → IfOk result (λ end. AreCounted (F.function function) records.now end.snapshot.rows.items) }

@@ -5,7 +5,7 @@ ghost use Rattle.std.specs.List.{zip};
 ghost use Rattle.jb_texts.specs.Report.{Report, StepReport, report_text};
 ghost use Rattle.jb_texts.specs.ReportTokens.{step_tokens};
 ghost use Rattle.jb_program.specs.Refusals.{Explains, RunningRounds};
-ghost use Rattle.jb_program.specs.JobRun.{AreStepRuns, IsJobRun, IsRefusedAtStep, IsRestartRefused, IsRestartRun, earlier, status_in};
+ghost use Rattle.jb_program.specs.JobRun.{AreStepReports, IsJobReport, IsRefusedAtStep, IsRestartRefused, IsRestartRun, earlier, status_in};
 ghost use Rattle.jb_program.specs.StepRun.{AreHeld};
 
 use crate::run::step::run_job_step;
@@ -30,7 +30,7 @@ fn run_steps<T: Threads + Wait + Sync>(
     text: &mut StepsText,
 ) -> Result<Status, ProgramError>
     requires held { IfSome resume AreHeld }
-    ensures ran { IfOk result (λ status. (reports : List StepReport) × AreStepRuns (zip steps.now supplies.items) round_limit resume reports
+    ensures ran { IfOk result (λ status. (reports : List StepReport) × AreStepReports (zip steps.now supplies.items) round_limit resume reports
         × (status ≡ status_in (slice_get reports (length reports - 1))) × (text.new ≡ text.old ++ flat_map step_tokens reports)) }
     ensures why { IfErr result (λ e. Explains RunningRounds e ⊎ IsRefusedAtStep (zip steps.now supplies.items) round_limit resume e) }
 {
@@ -59,7 +59,7 @@ fn run_later_steps<T: Threads + Wait + Sync>(
 ) -> Result<Status, ProgramError>
     requires held { AreHeld resume }
     ensures ran { IfOk result (λ status. (reports : List StepReport)
-        × AreStepRuns (drop (earlier resume.saved.step steps.now) (zip steps.now supplies.items)) round_limit (Some resume) reports
+        × AreStepReports (drop (earlier resume.saved.step steps.now) (zip steps.now supplies.items)) round_limit (Some resume) reports
         × (status ≡ status_in (slice_get reports (length reports - 1))) × (text.new ≡ text.old ++ flat_map step_tokens reports)) }
     ensures why { IfErr result (λ e. Explains RunningRounds e
         ⊎ IsRefusedAtStep (drop (earlier resume.saved.step steps.now) (zip steps.now supplies.items)) round_limit (Some resume) e) }
@@ -85,7 +85,7 @@ pub fn run_job<T: Threads + Wait + Sync>(
     document: Document,
     round_limit: Option<u64>,
 ) -> Result<(Status, ReportText), ProgramError>
-    ensures ran { IfOk result (λ ran. (report : Report) × IsJobRun document round_limit report × (ran.0 ≡ report.status) × (ran.1 ≡ report_text report)) }
+    ensures ran { IfOk result (λ ran. (report : Report) × IsJobReport document round_limit report × (ran.0 ≡ report.status) × (ran.1 ≡ report_text report)) }
     ensures why { IfErr result (λ e. Explains RunningRounds e ⊎ IsRefusedAtStep (zip document.job.steps document.step_data) round_limit None e) }
 {
     let Document {

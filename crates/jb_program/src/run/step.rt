@@ -3,7 +3,7 @@
 ghost use Rattle.std.specs.Prelude.{◌≡◌, ◌⊎◌, ◌++◌, IfErr, IfOk, IfSome};
 ghost use Rattle.jb_texts.specs.Report.{StepReport};
 ghost use Rattle.jb_texts.specs.ReportTokens.{step_tokens};
-ghost use Rattle.jb_program.specs.JobRun.{IsStepRefused, IsStepRun};
+ghost use Rattle.jb_program.specs.JobRun.{IsStepRefused, IsStepReport};
 ghost use Rattle.jb_program.specs.Refusals.{Explains, RunningRounds};
 ghost use Rattle.jb_program.specs.StepRun.{AreHeld};
 
@@ -38,7 +38,7 @@ pub fn run_job_step<T: Threads + Wait + Sync>(
     text: &mut StepsText,
 ) -> Result<Status, ProgramError>
     requires held { IfSome resume AreHeld }
-    ensures ran { IfOk result (λ status. (report : StepReport) × IsStepRun step.now supply round_limit resume report × (status ≡ report.status) × (text.new ≡ text.old ++ step_tokens report)) }
+    ensures ran { IfOk result (λ status. (report : StepReport) × IsStepReport step.now supply round_limit resume report × (status ≡ report.status) × (text.new ≡ text.old ++ step_tokens report)) }
     ensures why { IfErr result (λ e. Explains RunningRounds e ⊎ IsStepRefused step.now supply resume e) }
 {
     let StepData {

@@ -9,7 +9,7 @@ ghost use Rattle.jb_documents.specs.RunDocument.{IsRefusedDocument};
 ghost use Rattle.jb_texts.specs.Front.{AppendsFront};
 ghost use Rattle.jb_texts.specs.Statuses.{status_code};
 ghost use Rattle.jb_program.specs.Refusals.{Explains, RunningJob};
-ghost use Rattle.jb_program.specs.RunWord.{IsRefusedPlan, IsRun, IsRunFront};
+ghost use Rattle.jb_program.specs.RunWord.{IsRefusedPlan, IsReported, IsRunFront};
 
 use crate::run::run_job;
 use crate::streams::{ProgramError, read_all};
@@ -47,7 +47,7 @@ pub fn run<T: Threads + Wait + Sync, R: Read, W: Write>(
     reader: &mut R,
     writer: &mut W,
 ) -> Result<u8, ProgramError>
-    ensures ok { IfOk result (IsRun round_limit (R.remaining reader.old) (W.contents writer.old) (W.contents writer.new)) }
+    ensures ok { IfOk result (IsReported round_limit (R.remaining reader.old) (W.contents writer.old) (W.contents writer.new)) }
     ensures refused { IfErr result (λ e. (fault : JobError) → e ≡ ProgramError.Document fault → IfSome (R.remaining reader.old) (IsRefusedDocument fault)) }
     ensures unplanned { IfErr result (λ e. (fault : PlanError) → e ≡ ProgramError.Plan fault → IfSome (R.remaining reader.old) (IsRefusedPlan round_limit fault)) }
     ensures unsaved { IfErr result (λ e. (place : SavedPlace) → e ≢ ProgramError.Saved place) }

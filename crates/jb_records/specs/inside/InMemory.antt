@@ -5,18 +5,16 @@ use Rattle.jb_collect.specs.declared.calls.Status.{Status}
 use Rattle.jb_repo.specs.declared.snapshot.Snapshot.{Snapshot}
 use Rattle.jb_saved.specs.Answers.{first_running}
 use Rattle.jb_saved.specs.GoingOn.{ends_past, rows_restarted}
-use Rattle.jb_step.specs.Alone.{AreOnTheWay}
-use Rattle.jb_step.specs.Answers.{AreLeftOnTheWay, StepRun, artifacts_of, tasks_after, tasks_before, tasks_left}
-use Rattle.jb_step.specs.Headline.{Headline}
 use Rattle.jb_step.specs.Statuses.{status_of}
 use Rattle.jb_step.specs.preparing.Prepare.{DoFit}
-use Rattle.jb_step.specs.restarts.StepRuns.{IsAnswered}
 use Rattle.jb_records.specs.PartitionResults.{newer_partition_results}
 use Rattle.jb_artifacts.specs.Meaning.{ArtifactsMeaning}
 use Rattle.jb_rules.specs.declared.row.Row.{Row}
 use Rattle.jb_rules.specs.States.{is_finished}
-use Rattle.jb_step.specs.preparing.Setup.{IsSetup, Setup, first_tasks, needs, rows_now, unfinished}
+use Rattle.jb_step.specs.preparing.Setup.{IsSetup, Setup, needs, unfinished}
 use Rattle.jb_records.specs.Function.{Function}
+use Rattle.jb_records.specs.Made.{HasRunOver}
+use Rattle.jb_records.specs.StepRuns.{IsStepRunOf}
 use Rattle.jb_records.specs.Steps.{AreFirstArtifacts}
 use Rattle.jb_records.specs.Intervals.{HasGoneOn, RunState, StandsOver, numbers_in, artifacts_in}
 
@@ -29,30 +27,10 @@ pub record IsAsPrepared (f : Function) (records : List (List ℕ)) (step : List 
   pub partitions : numbers_in s.artifacts ≡ needs setup.rows
   pub artifacts : AreFirstArtifacts f setup.rules records partition_results (unfinished setup.rows) (artifacts_in s.artifacts)
 
--- what a run of the step was, that left this
-pub record IsRanOver (s : Setup) (artifacts : List ArtifactsMeaning) (rounds : Option ℕ) (snapshot : Snapshot) (left : List (ℕ × ArtifactsMeaning)) : Type 0 where
-  pub run : StepRun
-  pub setup : run.setup ≡ s
-  pub artifacts_are : run.artifacts ≡ artifacts
-  pub rounds_are : run.round_limit ≡ rounds
-  pub answered : IsAnswered run
-  pub headline : Headline run
-  pub on_the_way : AreOnTheWay (tasks_before run) (tasks_after run)
-  pub snapshot_is : run.snapshot ≡ snapshot
-  pub left_is : run.left ≡ left
-  pub fit : DoFit s artifacts
-  pub ways : AreLeftOnTheWay (first_tasks s artifacts) snapshot.rows.items left
-  pub rows : snapshot.rows.items ≡ rows_now s.rows (tasks_left (first_tasks s artifacts) snapshot.rows.items left)
-  pub came_back : left ≡ artifacts_of (tasks_left (first_tasks s artifacts) snapshot.rows.items left)
-
 -- the run that was prepared so ended after one interval: with this status, these rows, and these results of its partitions
 pub record HasEnded (f : Function) (records : List (List ℕ)) (rounds : Option ℕ) (s : Setup) (partition_results : List (List (List ℕ))) (now : Status) (snapshot : Snapshot) (results : List (List (List ℕ))) : Type 0 where
-  pub artifacts : List ArtifactsMeaning
-  pub first : AreFirstArtifacts f s.rules records partition_results (unfinished s.rows) artifacts
-  pub left : List (ℕ × ArtifactsMeaning)
-  pub ran : IsRanOver s artifacts rounds snapshot left
+  pub run : HasRunOver f records rounds s partition_results snapshot results
   pub status_is : now ≡ status_of snapshot.rows.items false
-  pub results_are : results ≡ newer_partition_results left partition_results
 
 -- the run resumes from these rows, with these works and results
 pub record IsGoingOn (step : List ℕ) (count : ℕ) (rules : RulesRecord) (rows : List Row) (artifacts : List (ℕ × ArtifactsMeaning)) (results : List (List (List ℕ))) (s : RunState) : Type 0 where
@@ -92,7 +70,7 @@ ArtifactsFit = (f : Function) (records : List (List ℕ)) (s : RunState) → Sta
 abbrev pub RowsAreSaved : Type 0
 RowsAreSaved =
     (f : Function) (records : List (List ℕ)) (s : RunState) (rounds : Option ℕ) (snapshot : Snapshot) (left : List (ℕ × ArtifactsMeaning))
-    → StandsOver f records s → IsRanOver s.setup (artifacts_in s.artifacts) rounds snapshot left
+    → StandsOver f records s → IsStepRunOf s.setup (artifacts_in s.artifacts) rounds snapshot left
     → (first_running snapshot.rows.items ≡ None) × (ends_past s.records snapshot.rows.items ≡ false)
 
 -- If it resumes from them, with what came back of the unfinished partitions, and with the results of the finished ones added to the others,
@@ -100,6 +78,6 @@ RowsAreSaved =
 abbrev pub IntervalsGoOn : Type 0
 IntervalsGoOn =
     (f : Function) (records : List (List ℕ)) (before after : RunState) (results : List (List (List ℕ))) (rounds : Option ℕ) (snapshot : Snapshot) (left : List (ℕ × ArtifactsMeaning))
-    → StandsOver f records before → before.partition_results ≡ newer_partition_results before.artifacts results → IsRanOver before.setup (artifacts_in before.artifacts) rounds snapshot left
+    → StandsOver f records before → before.partition_results ≡ newer_partition_results before.artifacts results → IsStepRunOf before.setup (artifacts_in before.artifacts) rounds snapshot left
     → IsGoingOn before.step before.records before.setup.rules snapshot.rows.items (filter (is_left snapshot.rows.items) left) (newer_partition_results (filter (is_done snapshot.rows.items) left) results) after
     → HasGoneOn f records before after snapshot.rows.items (new_results_from 0 (map (λ row. row.written) before.setup.rows) left)

@@ -1,8 +1,6 @@
-use Rattle.std.proofs.Common.{rules, ◌≡◌, ◌∙◌, List, ap, refl, subst, sym, Ok, Err}
+use Rattle.std.proofs.Common.{rules, ◌≡◌, List, subst, Ok, Err}
 use Rattle.jb_artifacts.specs.Meaning.{ArtifactsMeaning}
-use Rattle.jb_step.specs.Answers.{artifacts_of}
 use Rattle.jb_step.specs.preparing.Prepare.{DoFit}
-use Rattle.jb_step.specs.preparing.Setup.{rows_now}
 use Rattle.jb_records.specs.declared.error.RecordsStepError.TheVariants.{Step}
 use Rattle.jb_records.specs.Causes.{Explains, Run}
 use Rattle.jb_records.proofs.Answered.{err-of, ok-of}
@@ -15,23 +13,14 @@ use Rattle.jb_records.proofs.interval.ran.Goals as goal
 pub returns-clause-ran : goal.returns-clause-ran
 returns-clause-ran g c =
     let is : c.run_pooled_step-end.result.0 ≡ Ok c.in_ok-end.end = search rules in
-    let run = ok-of _ _ _ is c.run_pooled_step-end.ensures.run in
-    let fit = ok-of _ _ _ is c.run_pooled_step-end.ensures.fit in
-    let ways = ok-of _ _ _ is c.run_pooled_step-end.ensures.on_the_way in
     ran-same _ _ _ _ _ _ c.in_ok-artifacts.ensures (record {
-      run = _;
-      setup = refl;
-      artifacts_are = refl;
-      rounds_are = refl;
-      answered = record { fit = fit; run = run };
+      heard_before = _;
+      heard_after = _;
+      notes = _;
+      fit = ok-of _ _ _ is c.run_pooled_step-end.ensures.fit;
+      run = ok-of _ _ _ is c.run_pooled_step-end.ensures.run;
       headline = ok-of _ _ _ is c.run_pooled_step-end.ensures.headline;
-      on_the_way = ways;
-      snapshot_is = refl;
-      left_is = refl;
-      fit = fit;
-      ways = ways;
-      rows = run.rows ∙ ap (rows_now c.args.prepared.rows) (sym run.tasks);
-      came_back = run.came_back ∙ ap artifacts_of (sym run.tasks);
+      ways = ok-of _ _ _ is c.run_pooled_step-end.ensures.on_the_way;
     })
 
 pub returns-clause-status : goal.returns-clause-status

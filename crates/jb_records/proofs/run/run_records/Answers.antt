@@ -12,7 +12,7 @@ use Rattle.jb_records.specs.PartitionResults.{IsSoFar, joined}
 use Rattle.jb_records.specs.inside.InMemory.{HasEnded}
 use Rattle.jb_records.proofs.Calling.{can-begin}
 use Rattle.jb_records.proofs.Causes.{handed-on}
-use Rattle.jb_records.proofs.Ending.{ends-by, ends-counted, ends-ranges, ends-so-far, ends-whole, kept-same, made-so}
+use Rattle.jb_records.proofs.Ending.{ends-by, ends-counted, ends-ranges, ends-so-far, ends-whole, kept-same}
 use Rattle.jb_records.proofs.Following.{rows-pass, step-passes}
 use Rattle.jb_records.proofs.Resuming.{behind}
 use Rattle.jb_records.proofs.run.run_records.Goals as goal
@@ -65,7 +65,7 @@ module _ (g : _) (c : goal.After-drop-function-2 g) where
 
 pub returns-clause-run : goal.returns-clause-run
 returns-clause-run g c =
-    IfOk-weaker c.run_last.result _ _ (λ end e. record { setup = setup g c; partition_results = shares g c; begun = c.in_ok-job.ensures.begun; made = made-so _ _ _ _ _ _ _ _ e }) (ended g c)
+    IfOk-weaker c.run_last.result _ _ (λ end e. record { setup = setup g c; partition_results = shares g c; begun = c.in_ok-job.ensures.begun; made = e.run }) (ended g c)
 
 pub returns-clause-failures : goal.returns-clause-failures
 returns-clause-failures g c =
