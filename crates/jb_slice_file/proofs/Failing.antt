@@ -1,34 +1,23 @@
--- Why a statement fails, by the name of its error: one that makes the table, one that reads it, and any other.
-use Rattle.std.proofs.Common.{◌≡◌, ◌∙◌, inl, inr, ℕ, List, append-nil, Ok, Err, Option, Some, None, sym, ap, subst, subst₂, ◌≤◌, ◌+◌, ◌*◌, ◌^◌, false, [], ◌∷◌, length, codes, arith}
-use Rattle.std.proofs.lemmas.Bool.{cases_Bool}
-use Rattle.sqlite.{specs.declared.error.Error.Error, specs.declared.error.Error.TheVariants.ExecuteReturnedResults, specs.Command.Command, specs.Order.Row, specs.Schema.Schema, specs.Does.{Does, MakesSequence, MakesTable, lacks_sequence}, specs.Listing.understood, specs.Clock.timed, specs.State.{State, mode_of, Executes, ExecutesIn, IsNotRun, IsNoStatement, RunsCommand, Fails, HasCause, store_error, shows_rows, text_of, FailsToQuery, FailsToShow}, proofs.Callers.{IsPlain, command_of, statement_of}, specs.Command.TheVariants.{CreateTable, Select}, specs.Change.created, specs.Compile.table_defined_by, specs.Effect.{Database, RefusesToRead, alter_error}, specs.Table.Table}
-use Rattle.sqlite_trees.{specs.declared.error.StoreError.StoreError as Cause, specs.declared.error.StoreError.TheVariants.Unstorable}
+-- Why a statement fails, by the name of its error: one that makes the table, one that reads it, and one that inserts.
+use Rattle.std.proofs.Common.{◌≡◌, ◌⊎◌, ◌∙◌, inl, inr, ℕ, zero, suc, List, append-nil, false, Ok, Err, Option, Some, None, option_map, sym, ap, subst, subst₂, ◌≤◌, ◌+◌, ◌^◌, [], ◌∷◌, length, codes, arith}
+use Rattle.std.{specs.Prelude.MatchOption, proofs.lemmas.Bool.cases_Bool, proofs.lemmas.List.length-append, proofs.lemmas.List.Elements.All-from_recursion, proofs.lemmas.List.Sums.sum_by-cons, proofs.lemmas.Nat.Bits.bit_at-zero, specs.Float.NotNan, specs.Int.bit_at}
+use lib.Ieee.{is_nan}
+use Rattle.sqlite.{specs.declared.types.Value.Value, specs.declared.error.Error.Error, specs.declared.error.Error.TheVariants.ExecuteReturnedResults, specs.Command.Command, specs.Order.Row, specs.Source.TheVariants.Values, specs.Schema.Schema, specs.Does.Does, specs.Listing.understood, specs.Clock.timed, specs.State.{State, mode_of, Executes, ExecutesIn, IsNotRun, IsRolledBack, IsUnchanged, IsNoStatement, RunsCommand, Fails, shows_rows, text_of, FailsToQuery, FailsToShow}, proofs.Callers.{IsPlain, command_of, statement_of}, specs.Command.TheVariants.{CreateTable, Select}, specs.Compile.table_defined_by, specs.Effect.{Database, RefusesToRead, edit_error}, specs.Rows.{Task, Sourced, Inserts, stamped}, specs.Table.Table, specs.Edit.{Edit, edit_of}, specs.Rowids.TheVariants.Chosen}
+use Rattle.sqlite_value.specs.Order.{number as number_of}
+use Rattle.sqlite_trees.{specs.View.IsStorable, specs.Tree.Trees}
+use Rattle.sqlite_schema.{specs.declared.schema.Constraint.TheVariants.PrimaryKey, specs.declared.schema.Keys.Keys, specs.Rules.table_reals}
+use Rattle.sqlite_rules.{specs.declared.error.Refusal.Refusal, specs.declared.error.Refusal.TheVariants.Violates, specs.Edit.{are_fresh, IsOversized, IsRefused}, specs.Lists.Has, specs.Action.{Writes, Leads}}
 use Rattle.sqlite_resolve.specs.declared.compiled.Compiled.{Compiled}
-use Rattle.jb_slice_file.specs.{declared.error.StoreError.StoreError, declared.error.StoreError.TheVariants.TooLong, Errors.{refusal_named, IsStoreFault, IsOpenCause}, TableSchema.{checkpoint, checkpoint_schema, no_schema}}
-use Rattle.sqlite_catalog.specs.Calls.{RefusesTable}
-use Rattle.sqlite_disk.specs.Disk.{MoreFaults}
-use Rattle.jb_slice_file.proofs.Texts.{create_text, query, select_text, create_is, select_is}
-use Rattle.sqlite_catalog.specs.declared.error.Refusal as alter
-use Rattle.sqlite_catalog.specs.declared.error.Refusal.TheVariants as refusal
-use Rattle.jb_slice_file.specs.declared.error.StoreError.TheVariants as named
+use Rattle.jb_slice_file.specs.{declared.error.StoreError.StoreError, declared.error.StoreError.TheVariants.TooLong, Errors.{refusal_named, IsCaused, IsStoreFault}, TableSchema.{checkpoint, checkpoint_schema, no_schema}, Rows.{HasNumber, HoldsList, IsTooLong, stored}, CheckpointBytes.CheckpointBytes, Chain.Linked, Numbered.at_number}
+use Rattle.jb_slice_file.proofs.{Texts.{command, create_is, create_text, insert_is, insert_statement, insert_text, params, query, select_is, select_text, news_are, terms}, Lists.taken_has}
 
 -- What holds of each fault of the store holds of a failure, unless SQLite refuses the command itself.
 module _ (old new : State) (Why : StoreError → Type 0) (faulty : (x : StoreError) → IsStoreFault old new x → Why x) (e : Error) where
-  of_store : IsStoreFault old new (refusal_named e) → Why (refusal_named e)
-  of_store = faulty (refusal_named e)
-
-  by_cause : (Big : Type 0) → (Big → Why TooLong) → (cause : Cause) → HasCause old new Big cause → Why (refusal_named (store_error cause))
-  by_cause Big long Unstorable has = long has
-  by_cause Big long cause has = faulty (refusal_named (store_error cause)) has
-
   pub by_failure : (Big : Type 0) → (Big → Why TooLong) → Fails old new Big e → Why (refusal_named e)
-  by_failure Big long f = rw f.1 (by_cause Big long f.0 f.2)
+  by_failure Big long f = grind (arith, faulty)
 
   pub no_statement : (sql : List ℕ) (given : Row) → IsNoStatement old sql given e → Why (refusal_named e)
-  no_statement sql given (inl h) = of_store (rw h.2 tt)
-  no_statement sql given (inr (c, is, inl h)) = of_store (rw h.1 tt)
-  no_statement sql given (inr (c, is, inr (inl h))) = of_store (rw h.1 tt)
-  no_statement sql given (inr (c, is, inr (inr h))) = of_store (rw h.1 tt)
+  no_statement sql given h = grind (arith, faulty)
 
   -- a text that is understood as this command
   module _ (sql : List ℕ) (given : Row) (schema : Schema) (has : old.now.schema ≡ schema) (command : Command) (is : command_of (understood schema sql) ≡ command)
@@ -43,72 +32,42 @@ module _ (old new : State) (Why : StoreError → Type 0) (faulty : (x : StoreErr
         let bare = subst IsPlain (sym known) plain in
         subst₂ (λ k t. Does old.step_limit (mode_of old) given old.now t None k (Err why)) (ap command_of known ∙ is) (ap (statement_of sql) known) (rw (bare.0, bare.1, append-nil given) at d)
 
-    pub by_execution : (Stops (Some e) → Why (refusal_named e)) → (Stops None → Why TooLong) → Executes sql given old new (Err e) → Why (refusal_named e)
-    unfolding ExecutesIn IsNotRun
-    by_execution refused long h = go h
-      where
-        run : (c : Compiled) (now : ℕ) → understood old.now.schema sql ≡ Ok c → RunsCommand old new sql c (timed given c.formats now) (Err e) → Why (refusal_named e)
-        run c now read (inl (inl (inl m), u)) = of_store (rw m.0 tt)
-        run c now read (inl (inl (inr m), u)) = of_store (rw m.0 tt)
-        run c now read (inl (inr m, u)) = refused (stops c now read (Some e) m.1)
-        run c now read (inr f) = by_failure _ (λ d. long (stops c now read None d)) f
+    run : (Stops (Some e) → Why (refusal_named e)) → (Stops None → Why TooLong) → (c : Compiled) (now : ℕ) → understood old.now.schema sql ≡ Ok c
+        → RunsCommand old new sql c (timed given c.formats now) (Err e) → Why (refusal_named e) × (IsUnchanged old new ⊎ IsRolledBack old new)
+    run refused long c now read h = grind (arith, faulty, stops, by_failure)
 
-        go : ExecutesIn false sql given old new (Err e) → Why (refusal_named e)
-        go (inl (inl u)) = no_statement sql given u.0
-        go (inl (inr f)) = by_failure ⊥ (λ x. absurd x) f
-        go (inr r) = elim (cases_Bool (shows_rows false r.0)) [
-          | inl shows ↦ let is : e ≡ ExecuteReturnedResults = (let k = (rw shows at r.2).0 in cc) in of_store (rw is tt)
-          | inr runs ↦ run r.0 r.1.now r.1.is (rw runs at r.2)
-        ]
+    -- why it failed; and nothing was changed, or all was undone
+    pub by_execution : (Stops (Some e) → Why (refusal_named e)) → (Stops None → Why TooLong) → Executes sql given old new (Err e) → Why (refusal_named e) × (IsUnchanged old new ⊎ IsRolledBack old new)
+    unfolding ExecutesIn IsNotRun
+    by_execution refused long (inl (inl u)) = (no_statement sql given u.0, inl u.1)
+    by_execution refused long (inl (inr f)) = (by_failure ⊥ (λ x. absurd x) f, inr f.3)
+    by_execution refused long (inr r) = elim (cases_Bool (shows_rows false r.0)) [
+      | inl shows ↦ let k = rw shows at r.2 in (let is : e ≡ ExecuteReturnedResults = (let n = k.0 in cc) in faulty _ (rw is tt), inl k.1)
+      | inr runs ↦ run refused long r.0 r.1.now r.1.is (rw runs at r.2)
+    ]
 
 -- the table that the text defines is ours
 same_table : (table : Table) → table_defined_by create_text ≡ Ok table → table ≡ checkpoint
 same_table table defined = let both : Ok table ≡ Ok checkpoint = sym defined ∙ create_is.2 in cc
 
--- no other table is made beside it
-alone : (db after : Database) (stop : Option Error) → db.schema ≡ no_schema → MakesTable create_text db (Ok after) → MakesSequence after (Err stop) → ⊥
-alone db after stop has made lacks =
-    let schema : after.schema ≡ checkpoint_schema = made.is ∙ ap (λ x. created x made.table) has ∙ ap (created no_schema) (same_table made.table made.defined) in
-    let plain : lacks_sequence after.schema ≡ false = ap lacks_sequence schema in
-    let given = rw plain at lacks in
-    cc
-
--- and its text isn't too long
-short : (table : Table) → table_defined_by create_text ≡ Ok table → 10 ^ 9 ≤ 2 * length table.name + length create_text + 200 → ⊥
-short table defined long = let name : length table.name ≡ 10 = ap (λ (t : Table). length t.name) (same_table table defined) in omega (arith, name, long)
-
 module _ (old new : State) where
-  module _ (has : old.now.schema ≡ no_schema) (e : Error) where
-    by_alter : (schema : Schema) (reason : alter.Refusal) → RefusesTable schema create_text reason → e ≡ alter_error reason → IsStoreFault old new (refusal_named e)
-    by_alter schema (refusal.Violates rule) refuses is = absurd refuses
-    by_alter schema reason refuses is = rw is tt
-
-    by_table : (stop : Option Error) → MakesTable create_text old.now (Err stop) → stop ≡ Some e → IsStoreFault old new (refusal_named e)
-    by_table None h is = absurd cc
-    by_table (Some x) (inl h) is = let same : x ≡ e = cc in rw (sym same, h.1) tt
-    by_table (Some x) (inr h) is = by_alter old.now.schema h.0 h.1 (let same : e ≡ x = cc in same ∙ h.2)
-
+  module _ (has : old.now.schema ≡ no_schema) where
     abbrev Unmade : List ℕ → Option Error → Type 0
     Unmade text why = Does old.step_limit (mode_of old) [] old.now text None CreateTable (Err why)
 
-    refused : Unmade create_text (Some e) → IsStoreFault old new (refusal_named e)
-    refused (inl (stop, inl h, is)) = by_table h.0 h.1 (let k = h.2 in cc)
-    refused (inl (stop, inr h, is)) = absurd (alone old.now h.0 stop has h.1 h.2)
-    refused (inr h) = absurd (let k = h.2 in cc)
+    unmade_by : (why : Option Error) → Unmade create_text why → MatchOption why ⊥ (λ e. IsStoreFault old new (refusal_named e))
+    unmade_by why h = grind (arith, same_table)
 
-    never_long : Unmade create_text None → ⊥
-    never_long (inl (stop, inl h, is)) =
-        let none : h.0 ≡ None = (let k = h.2 in cc) in
-        let long = subst (λ s. MakesTable create_text old.now (Err s)) none h.1 in
-        short long.0 long.1 long.2
-    never_long (inl (stop, inr h, is)) = alone old.now h.0 stop has h.1 h.2
-    never_long (inr h) = let k = h.2 in cc
-
-    pub unmade : Executes create_text [] old new (Err e) → IsStoreFault old new (refusal_named e)
-    unmade = by_execution old new (IsStoreFault old new) (λ x f. f) e create_text [] no_schema has CreateTable create_is.0 create_is.3
-        (λ d. refused (subst (λ t. Unmade t (Some e)) create_is.1 d)) (λ d. never_long (subst (λ t. Unmade t None) create_is.1 d))
+    pub unmade : (e : Error) → Executes create_text [] old new (Err e) → IsStoreFault old new (refusal_named e)
+    unmade e h = (by_execution old new (IsStoreFault old new) (λ x f. f) e create_text [] no_schema has CreateTable create_is.0 create_is.3
+        (λ d. unmade_by (Some e) (subst (λ t. Unmade t (Some e)) create_is.1 d))
+        (λ d. absurd (unmade_by None (subst (λ t. Unmade t None) create_is.1 d))) h).0
 
   -- its rows aren't read
+  unread : (db : Database) (row : Row) (e : Error) → RefusesToRead old.step_limit (Select (record { lets = []; body = query }) (codes "number" ∷ codes "saved" ∷ codes "results" ∷ codes "link" ∷ [])) db row e
+      → IsStoreFault old new (refusal_named e)
+  unread db row e h = grind arith
+
   pub not_read : old.now.schema ≡ checkpoint_schema → (e : Error) → FailsToQuery select_text [] old new e → IsStoreFault old new (refusal_named e)
   unfolding FailsToQuery IsNotRun
   not_read ours e (inl (inl u)) = no_statement old new (IsStoreFault old new) (λ x f. f) e select_text [] u.0
@@ -118,22 +77,83 @@ module _ (old new : State) where
       let bare : IsPlain (Ok c) = subst IsPlain (sym known) select_is.2 in
       let row = timed [] c.formats it.now in
       let plain = subst (FailsToShow old new select_text c row e) bare.0 shows in
-      go plain.0 row (subst (λ k. RefusesToRead old.step_limit k plain.0 row e) (ap command_of known ∙ select_is.0) plain.2)
-    where
-      go : (db : Database) (row : Row) → RefusesToRead old.step_limit (Select (record { lets = []; body = query }) (codes "number" ∷ codes "saved" ∷ codes "results" ∷ codes "link" ∷ [])) db row e
-          → IsStoreFault old new (refusal_named e)
-      go db row (inl h) = rw h.0 tt
-      go db row (inr (inl h)) = rw h.0 tt
-      go db row (inr (inr h)) = rw h.0 tt
+      unread plain.0 row e (subst (λ k. RefusesToRead old.step_limit k plain.0 row e) (ap command_of known ∙ select_is.0) plain.2)
 
--- a fault after what was done before
-pub later_fault : (old mid new : State) → old.faults ≤ mid.faults → (mid.is_open ≡ false → MoreFaults old.faults new.faults) → (e : StoreError) → IsStoreFault mid new e → IsOpenCause old new e
-later_fault old mid new counts shut named.Foreign fault = absurd fault
-later_fault old mid new counts shut named.Version fault = absurd fault
-later_fault old mid new counts shut named.Gap fault = absurd fault
-later_fault old mid new counts shut (named.Altered number) fault = absurd fault
-later_fault old mid new counts shut named.Damaged fault = omega (arith, counts, fault)
-later_fault old mid new counts shut named.Full fault = omega (arith, counts, fault)
-later_fault old mid new counts shut named.Disk fault = omega (arith, counts, fault)
-later_fault old mid new counts shut named.Shut fault = shut fault
-later_fault old mid new counts shut _ fault = fault
+-- ---- an insertion
+
+-- a row sets nothing off, and so nothing that it sets off fails
+goes_on : (schema : Schema) (keys : Keys) (db : Trees) (why : Option Refusal) (n : ℕ) → Leads schema keys n db [] (Err why) → ⊥
+goes_on schema keys db why zero h = let e = h.1 in cc
+goes_on schema keys db why (suc n) h = omega (arith, ap length h.2, length-append h.0 (h.1 ∷ []))
+
+-- the row of a checkpoint can't be stored where it is too long alone
+storable : (number : ℕ) (one : Linked) → length one.link ≡ 32 → 122 + length one.it.saved + length one.it.results ≤ 10 ^ 9 → IsStorable (table_reals checkpoint) (stored (at_number number one))
+unfolding is_nan
+storable number one wide short = record {
+  typed = λ c set. absurd (let none : bit_at (table_reals checkpoint) c ≡ 0 = bit_at-zero c in omega arith);
+  columns = (omega arith, omega arith);
+  numbers = All-from_recursion (λ (v : Value). NotNan (number_of v)) (stored (at_number number one)) (tt, (tt, (tt, (tt, (tt, tt)))));
+  short = simp sum_by-cons (omega (arith, wide, short));
+}
+
+too_long : (number : ℕ) (one : Linked) → length one.link ≡ 32 → IsOversized checkpoint_schema checkpoint (stored (at_number number one)) → IsTooLong one.it
+too_long number one wide (inr index) = absurd index.1
+too_long number one wide (inl never) = grind (arith, storable number one wide)
+
+module _ (old new : State) (all : List CheckpointBytes) (holds : HoldsList old.now all) (it : Linked) (wide : length it.link ≡ 32) (number : ℕ) (full : Type 0) where
+  abbrev Why : StoreError → Type 0
+  Why = IsCaused old new (HasNumber all number) (IsTooLong it.it) full
+
+  faulty : (x : StoreError) → IsStoreFault old new x → Why x
+  faulty x h = grind arith
+
+  by_rules : (r : Refusal) → (r ≡ Violates PrimaryKey → HasNumber all number) → Why (refusal_named (edit_error r))
+  by_rules r has = grind arith
+
+  abbrev task : Task
+  task = record { limit = old.step_limit; keys = (mode_of old).keys; schema = checkpoint_schema; table = checkpoint; params = params number it }
+
+  -- the row that goes in
+  abbrev edit : List Row → Edit
+  edit rows = edit_of old.now.trees checkpoint [] Chosen 0 rows
+
+  -- what it tells that the insertion stopped: with no error if the row is too long
+  abbrev Reason : Option Error → Type 0
+  Reason None = IsTooLong it.it
+  Reason (Some e) = Why (refusal_named e)
+
+  unsourced : (stop : Option Error) → Sourced old.step_limit (record { schema = checkpoint_schema; trees = old.now.trees })
+      (stamped checkpoint (params number it)) (Values terms 5) (Err stop) → Reason stop
+  unsourced stop h = grind arith
+
+  stopped : (rows : List Row) → (edit rows).news ≡ stored (at_number number it) ∷ [] → (why : Option Refusal)
+      → Writes checkpoint_schema (mode_of old).keys old.now.trees (edit rows) (Err why) → Reason (option_map edit_error why)
+  stopped rows news why (inl r) =
+      let is : Some r.0 ≡ why = (let e = r.2 in cc) in
+      subst (λ w. Reason (option_map edit_error w)) is (by_rules r.0 (λ taken_is.
+      let stale : are_fresh (old.now.trees 0) (edit rows).news ≡ false = subst (IsRefused checkpoint_schema (mode_of old).keys old.now.trees (edit rows)) taken_is r.1 in
+      taken_has (old.now.trees 0) all number it holds.rows (let free = subst (λ n. are_fresh (old.now.trees 0) n ≡ false) news stale in grind arith)))
+  stopped rows news why (inr (inl big)) =
+      let is : None ≡ why = (let e = big.3 in cc) in
+      let same : big.0 ≡ stored (at_number number it) = elim (subst (λ n. Has n big.0) news big.1) [ inl one ↦ one | inr none ↦ absurd none ] in
+      subst (λ w. Reason (option_map edit_error w)) is (too_long number it wide (subst (IsOversized checkpoint_schema checkpoint) same big.2))
+  stopped rows news why (inr (inr went)) = absurd (goes_on checkpoint_schema (mode_of old).keys went.0 _ went.2.0 went.2.1)
+
+  inserted : (stop : Option Error) → Inserts task (Values terms 5) old.now.trees (Err stop) → Reason stop
+  inserted stop (inl h) = let same : h.0 ≡ stop = (let k = h.2 in cc) in subst Reason same (unsourced h.0 h.1)
+  inserted stop (inr (rows, s, inl h)) = absurd (let k = h.1 in cc)
+  inserted stop (inr (rows, s, inr (c, t, inl h))) =
+      let same : stop ≡ option_map edit_error h.1.0 = (let k = h.2 in let m = h.1.2 in cc) in
+      subst Reason (sym same) (stopped rows (ap (λ r. (edit r).news) s.1 ∙ news_are old.now.trees number it) h.1.0 h.1.1)
+  inserted stop (inr (rows, s, inr (c, t, inr h))) = grind arith
+
+  -- the row wasn't written, or it was, and broke a reference
+  failed : (stop : Option Error) → Does old.step_limit (mode_of old) (params number it) (record old.now { schema = checkpoint_schema }) insert_statement None
+      command (Err stop) → Reason stop
+  failed stop (inl h) = let same : h.0 ≡ stop = (let k = h.2 in cc) in subst Reason same (inserted h.0 h.1)
+  failed stop (inr h) = grind arith
+
+  pub caused : (e : Error) → Executes insert_text (params number it) old new (Err e) → Why (refusal_named e)
+  caused e h =
+      let ours = λ (why : Option Error). subst (λ x. Does old.step_limit (mode_of old) (params number it) (record old.now { schema = x }) insert_statement None command (Err why)) holds.schema in
+      (by_execution old new Why faulty e insert_text (params number it) checkpoint_schema holds.schema command insert_is.0 insert_is.1 (λ d. failed (Some e) (ours (Some e) d)) (λ d. failed None (ours None d)) h).0

@@ -1,14 +1,10 @@
 pub mod Handed
 pub mod Chains
-pub mod Numbers
 pub mod Texts
 pub mod Lists
-pub mod Columns
 pub mod Written
-pub mod Caused
 pub mod Failing
 pub mod Read
-pub mod Named
 pub mod Opened
 pub mod Clean
 pub mod Opens
@@ -17,4 +13,3 @@ pub mod Pages
 pub mod Somes
 pub mod Stages
 pub mod Tables
-pub mod Whole

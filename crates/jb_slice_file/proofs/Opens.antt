@@ -1,5 +1,5 @@
 -- What an open finds, and what it leaves where it was cut.
-use Rattle.std.proofs.Common.{◌≡◌, ◌⊎◌, ◌∙◌, ℕ, Bool, true, false, List, [], IsTrue, inl, inr, refl, sym, ap, subst, subst₂, true≢false}
+use Rattle.std.proofs.Common.{arith, ◌≡◌, ◌⊎◌, ◌∙◌, ℕ, Bool, true, false, List, [], IsTrue, inl, inr, refl, sym, ap, subst, subst₂, true≢false}
 use Rattle.std.proofs.Math.Logic.{∥∥₁_map, ∥∥₁_elim}
 use Rattle.sqlite_catalog.specs.Listing.{IsSound, Lists}
 use Rattle.sqlite_disk.{specs.declared.Disk.Ghosts, specs.declared.Files.Files}
@@ -7,9 +7,9 @@ use Rattle.sqlite_pool.{proofs.StateLemmas.size_is_allowed, specs.File.IsSoundFi
 use Rattle.sqlite_store.{proofs.AlikeLemmas.same_file, specs.FileStore.{reading, recovers, schema_in, state}, specs.Listed.catalog_rows, specs.Listing.{IsOurs, file_trees, listed_from}, specs.Unopened.state_of, specs.declared.catalog.Wanted.Wanted, specs.declared.store.FileStore.FileStore}
 use Rattle.sqlite_trees.{specs.Objects.catalog_tree, specs.Tree.Trees}
 use Rattle.sqlite_wal.{proofs.LogLemmas.SeenMayStay, specs.Recovery.{Image, Pages}}
-use Rattle.sqlite.{proofs.FileLemmas.is_something, proofs.ListingLemmas.empty_is_sound, specs.Files.{AreFoundIn, HoldsDatabase, IsNothing, LeavesFiles, NamesSize, SaysSums, image_of}, specs.Schema.Schema, specs.State.State, specs.declared.file.Leftover.Leftover}
+use Rattle.sqlite.{proofs.ListingLemmas.empty_is_sound, specs.Files.{AreFoundIn, HoldsDatabase, IsNothing, LeavesFiles, NamesSize, SaysSums, image_of}, specs.Schema.Schema, specs.State.State, specs.declared.file.Leftover.Leftover}
 use Rattle.jb_slice_file.specs.{Rows.{Has, ShowsList}, Connections.IsJustOpened, CheckpointBytes.CheckpointBytes, TableSchema.{checkpoint_schema, no_schema}, Files.{HoldsWhole, CanGoOn, IsResumable, HoldsPages, HoldsRun, HoldsRunOrNone, HasRunCheckpoints, Leaves, LeavesImage, MayGoOn, has_store}}
-use Rattle.jb_slice_file.proofs.{Opened.shows_found, Pages.{pages_once, something, stands_pages}, Tables.{IsChecked, one_list}, Whole.{database_pages, stands_whole, whole_is_database, whole_pages}}
+use Rattle.jb_slice_file.proofs.{Opened.shows_found, Pages.{database_pages, pages_once, reads_as, something, stands_pages, stands_whole, whole_pages}, Tables.{IsChecked, one_list}}
 use Rattle.sqlite.specs.declared.file.Leftover.TheVariants as left
 
 -- the same file, of whose numbers nothing is said
@@ -17,10 +17,7 @@ loose_file : (size : ℕ) (is_numbered : Bool) (wanted : List Wanted) (pages : P
 loose_file size is_numbered wanted pages ours = record { file = ours.file; numbered = λ no. absurd (true≢false (sym no)) }
 
 with_numbers : (is_numbered : Bool) (image : Image) (db : Trees) → HoldsPages true image db → HoldsPages is_numbered image db
-with_numbers true image db held = held
-with_numbers false image db held =
-    let it = held.2 in
-    (held.0, held.1, record { stored = it.stored; found = it.found; whole = it.whole; wanted = it.wanted; ours = loose_file held.0 true it.wanted (trimmed held.0 it.stored) it.ours; reads = it.reads }, held.3)
+with_numbers is_numbered image db held = grind (arith, loose_file)
 
 holds_something : (is_numbered : Bool) (image : Image) (db : Trees) → HoldsPages is_numbered image db → ¬ IsNothing image
 holds_something is_numbered image db held = something held.0 image held.2.stored held.2.found held.2.whole held.2.ours.file.sound
@@ -37,19 +34,8 @@ stands_on : (is_numbered : Bool) (old new : Image) (db : Trees) → HoldsPages i
     → (IsTrue (is_summed size) → SaysSums (stored_size size) old) → StandsAs size old new → HoldsPages is_numbered new db
 stands_on is_numbered old new db held size names says stands =
     let it = held.2 in
-    let now = stands_pages held.0 old it.stored it.found it.whole it.ours.file.sound size new names says stands in (
-      held.0,
-      held.1,
-      record {
-        stored = now.0;
-        found = now.1;
-        whole = now.2;
-        wanted = it.wanted;
-        ours = subst (IsOurs held.0 is_numbered it.wanted) (sym now.3) it.ours;
-        reads = it.reads ∙ ap (file_trees held.0 it.wanted) (sym now.3);
-      },
-      held.3,
-    )
+    let now = stands_pages held.0 old it.stored it.found it.whole it.ours.file.sound size new names says stands in
+    (held.0, held.1, reads_as is_numbered held.0 new db it.wanted (trimmed held.0 it.stored) now.0 now.1 now.2 now.3 it.ours it.reads, held.3)
 
 -- An open has found a sound file in files that hold these pages.
 module _ (image : Image) (db : Trees) (is_numbered : Bool) (held : HoldsPages is_numbered image db) (size : ℕ) (pages : Pages) (wanted : List Wanted) (taken : Adopts size image pages)
@@ -68,19 +54,9 @@ module _ (image : Image) (db : Trees) (is_numbered : Bool) (held : HoldsPages is
   here = subst₂ (λ s p. IsOurs s true wanted p) once.0 same exact
 
   as_database : IsOurs held.0 true held.2.wanted (trimmed held.0 stored) → HoldsDatabase image db
-  as_database ours = (
-    held.0,
-    held.1,
-    record {
-      pages = trimmed held.0 stored;
-      wanted = held.2.wanted;
-      schema = held.3.0;
-      found = subst₂ (λ s p. Adopts s image p) once.0 same taken;
-      ours = ours;
-      reads = held.2.reads;
-      sound = held.3.1;
-    },
-  )
+  as_database ours =
+      let found = subst₂ (λ s p. Adopts s image p) once.0 same taken in
+      (held.0, held.1, record { pages = trimmed held.0 stored; wanted = held.2.wanted; schema = held.3.0; found = found; ours = ours; reads = held.2.reads; sound = held.3.1 })
 
   -- where both are checkpoints or nothing, the tables have their numbers
   named : (all : List CheckpointBytes) → Has db all → (schema : Schema) → IsSound schema (file_trees size wanted pages) → (schema ≡ no_schema) ⊎ (schema ≡ checkpoint_schema)
@@ -88,14 +64,9 @@ module _ (image : Image) (db : Trees) (is_numbered : Bool) (held : HoldsPages is
   named all has schema sound is =
       let listed : db catalog_tree ≡ listed_from 0 held.2.wanted = ap (λ d. d catalog_tree) held.2.reads ∙ catalog_rows held.0 held.2.wanted _ in
       let theirs : file_trees size wanted pages catalog_tree ≡ listed_from 0 wanted = catalog_rows size wanted _ in
-      let ours : IsChecked (listed_from 0 held.2.wanted) = elim has [
-        | inl stands ↦ inl (subst (λ rows. Lists rows checkpoint_schema) listed stands.sound.lists)
-        | inr none ↦ inr (subst (λ rows. Lists rows no_schema) listed none.0.lists)
-      ] in
-      let found : IsChecked (listed_from 0 wanted) = elim is [
-        | inl none ↦ inr (subst₂ Lists theirs none sound.lists)
-        | inr checked ↦ inl (subst₂ Lists theirs checked sound.lists)
-      ] in
+      let ours : IsChecked (listed_from 0 held.2.wanted) = grind arith in
+      let lists : Lists (listed_from 0 wanted) schema = subst (λ rows. Lists rows schema) theirs sound.lists in
+      let found : IsChecked (listed_from 0 wanted) = grind arith in
       let one = one_list held.0 (trimmed held.0 stored) held.2.wanted wanted held.2.ours.file here ours found in
       (same_file held.0 wanted held.2.wanted (trimmed held.0 stored) (sym one) here).0
 
@@ -136,39 +107,38 @@ module _ {D : Type 0} {g : Ghosts D} (so_far : List CheckpointBytes → Type 0) 
   pub cut_run : (rest : Leftover D g) → has_store rest ≡ false → LeavesFiles files rest → (image : Image) → LeavesImage rest image → Leaves g (HoldsRun so_far) files → HoldsRun so_far image
   cut_run (left.Files now) bare cut image may leaves = leaves image (cut image may)
   cut_run (left.Store it) bare cut image may leaves = absurd (true≢false bare)
-  cut_run (left.Unopened now) bare cut image may leaves = ∥∥₁_elim (leaves (image_of g files) (stays files.log, stays files.db)) squash₁ (λ h. elim cut [
-    | inl fresh ↦ absurd (is_something (image_of g files) h.0 (whole_is_database (image_of g files) h.0 h.1) fresh.0)
-    | inr there ↦ elim (there.4 image may).same [
-      | inl was ↦ leaves image was
-      | inr stands ↦ let r : (db : Trees) × HoldsWhole image db × HasRunCheckpoints so_far db = (h.0, stands_whole (image_of g files) image h.0 h.1 (state_of now).page_size there.1 there.3 stands, h.2) in ∣ r ∣₁
-    ]
-  ])
+  cut_run (left.Unopened now) bare (inl fresh) image may leaves =
+      ∥∥₁_elim (leaves (image_of g files) (stays files.log, stays files.db)) squash₁
+      (λ h. absurd (holds_something true (image_of g files) h.0 (whole_pages (image_of g files) h.0 h.1) fresh.0))
+  cut_run (left.Unopened now) bare (inr there) image may leaves = elim (there.4 image may).same [
+    | inl was ↦ leaves image was
+    | inr stands ↦ ∥∥₁_map (leaves (image_of g files) (stays files.log, stays files.db)) (λ h.
+        let r : (db : Trees) × HoldsWhole image db × HasRunCheckpoints so_far db = (h.0, stands_whole (image_of g files) image h.0 h.1 (state_of now).page_size there.1 there.3 stands, h.2) in r)
+  ]
 
   -- and files from which a run goes on
   pub cut_goes_on : (is_numbered : Bool) (rest : Leftover D g) → has_store rest ≡ false → LeavesFiles files rest → (image : Image) → LeavesImage rest image
       → Leaves g (IsResumable is_numbered so_far) files → IsResumable is_numbered so_far image
   cut_goes_on is_numbered (left.Files now) bare cut image may leaves = leaves image (cut image may)
   cut_goes_on is_numbered (left.Store it) bare cut image may leaves = absurd (true≢false bare)
-  cut_goes_on is_numbered (left.Unopened now) bare cut image may leaves = ∥∥₁_elim (leaves (image_of g files) (stays files.log, stays files.db)) squash₁ (λ from. elim cut [
-    | inl fresh ↦ elim from [
+  cut_goes_on is_numbered (left.Unopened now) bare (inl fresh) image may leaves = elim (fresh.1 image may) [
+    | inl was ↦ leaves image was
+    | inr begun ↦ ∥∥₁_elim (leaves (image_of g files) (stays files.log, stays files.db)) squash₁ (λ from. elim from [
       | inl h ↦ absurd (holds_something is_numbered (image_of g files) h.0 h.1 fresh.0)
-      | inr none ↦ elim (fresh.1 image may) [
-        | inl was ↦ leaves image was
-        | inr begun ↦ elim begun [
-          | inl still ↦ ∣ inr (still, none.1) ∣₁
-          | inr empty ↦ ∥∥₁_map empty (λ e. let r : Resumes is_numbered so_far image =
-              inl (e.0, with_numbers is_numbered image e.0 (database_pages image e.0 e.1), ([], inr (empty_is_sound e.0 e.2.1, refl), none.1)) in r)
-        ]
+      | inr none ↦ elim begun [
+        | inl still ↦ ∣ inr (still, none.1) ∣₁
+        | inr empty ↦ ∥∥₁_map empty (λ e. let r : Resumes is_numbered so_far image =
+            inl (e.0, with_numbers is_numbered image e.0 (database_pages image e.0 e.1), ([], inr (empty_is_sound e.0 e.2.1, refl), none.1)) in r)
       ]
-    ]
-    | inr there ↦ elim from [
+    ])
+  ]
+  cut_goes_on is_numbered (left.Unopened now) bare (inr there) image may leaves = elim (there.4 image may).same [
+    | inl was ↦ leaves image was
+    | inr stands ↦ ∥∥₁_map (leaves (image_of g files) (stays files.log, stays files.db)) (λ had. let r : Resumes is_numbered so_far image = elim had [
+      | inl h ↦ inl (h.0, stands_on is_numbered (image_of g files) image h.0 h.1 (state_of now).page_size there.1 there.3 stands, h.2)
       | inr none ↦ absurd (there.0 none.0)
-      | inl h ↦ elim (there.4 image may).same [
-        | inl was ↦ leaves image was
-        | inr stands ↦ let r : Resumes is_numbered so_far image = inl (h.0, stands_on is_numbered (image_of g files) image h.0 h.1 (state_of now).page_size there.1 there.3 stands, h.2) in ∣ r ∣₁
-      ]
-    ]
-  ])
+    ] in r)
+  ]
 
   -- an open that was cut behind its recovery leaves them, but for the numbers
   pub cut_loose : (now : FileStore D g) → LeavesFiles files (left.Store now) → (image : Image) → (state now).may_leave image → Leaves g (CanGoOn so_far) files → MayGoOn so_far image
@@ -180,11 +150,10 @@ module _ {D : Type 0} {g : Ghosts D} (so_far : List CheckpointBytes → Type 0) 
       let size = (state now).page_size in
       let wanted = schema_in now found.0 in
       ∥∥₁_elim (size_is_allowed now.pool) squash₁ (λ valid. ∥∥₁_elim found.2 squash₁ (λ ours.
-      let loose = subst (IsOurs size false wanted) (sym found.1.shows) (loose_file size now.is_numbered wanted found.0 ours) in
-      let shows : read ≡ file_trees size wanted (trimmed size found.1.stored) = ap (file_trees size wanted) (sym found.1.shows) in
+      let loose = loose_file size now.is_numbered wanted found.0 ours in
       let holds = λ (db : Trees) (is : db ≡ read) (schema : Schema) (sound : IsSound schema db).
       let h : HoldsPages false image db =
-      (size, valid, record { stored = found.1.stored; found = found.1.found; whole = found.1.whole; wanted = wanted; ours = loose; reads = is ∙ shows }, (schema, sound)) in h in
+      (size, valid, reads_as false size image db wanted found.0 found.1.stored found.1.found found.1.whole found.1.shows loose is, (schema, sound)) in h in
       ∥∥₁_elim (leaves (image_of g files) (stays files.log, stays files.db)) squash₁ (λ from. meets true so_far (image_of g files) read from told.0
       (λ db held run size pages wanted taken exact same.
       let is = told.1 db (as_database (image_of g files) db true held size pages wanted taken exact held.2.ours) in

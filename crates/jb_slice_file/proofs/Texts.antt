@@ -1,8 +1,8 @@
 -- What the three texts mean, computed.
-use Rattle.std.proofs.Common.{◌≡◌, ℕ, pos, negsuc, List, [], ◌∷◌, codes, false, None, Ok, refl}
-use Rattle.sqlite.{specs.declared.types.Value.TheVariants.{Null, Int}, specs.Term.{Term, lit, col}, specs.Query.{Query, inner, end}, specs.Source.TheVariants.Values, specs.Collation.TheVariants.Binary, specs.Command.TheVariants.{Insert, Select, CreateTable}, specs.Compile.table_defined_by, specs.Listing.{understood, reads_listing}, proofs.Callers.{IsPlain, command_of, statement_of}}
+use Rattle.std.proofs.Common.{◌≡◌, ℕ, pos, negsuc, List, [], ◌∷◌, codes, false, None, Ok, refl, arith}
+use Rattle.sqlite.{specs.declared.types.Value.TheVariants.{Null, Int}, specs.Order.Row, specs.Tree.Trees, specs.Edit.{Edit, edit_of}, specs.Effect.value_rows, specs.Rows.stamped, specs.Rowids.TheVariants.Chosen, specs.Ops.unary, specs.Term.{Term, lit, col}, specs.Query.{Query, inner, end}, specs.Source.TheVariants.Values, specs.Collation.TheVariants.Binary, specs.Command.Command, specs.Command.TheVariants.{Insert, Select, CreateTable}, specs.Compile.table_defined_by, specs.Listing.{understood, reads_listing}, proofs.Callers.{IsPlain, command_of, statement_of}}
 use Rattle.sqlite_tied.specs.Compute.{everything}
-use Rattle.jb_slice_file.specs.TableSchema.{checkpoint, checkpoint_schema, no_schema}
+use Rattle.jb_slice_file.specs.{TableSchema.{checkpoint, checkpoint_schema, no_schema}, Chain.Linked, Numbered.at_number, Rows.{shown, stored}}
 
 abbrev pub create_text : List ℕ
 create_text = codes "CREATE TABLE checkpoint (number INTEGER PRIMARY KEY, saved TEXT NOT NULL, results BLOB NOT NULL, link BLOB NOT NULL) STRICT"
@@ -43,3 +43,21 @@ pub select_is : (command_of (understood checkpoint_schema select_text) ≡ Selec
     × IsPlain (understood checkpoint_schema select_text)
 unfolding understood everything
 select_is = (refl, refl, (refl, refl))
+
+-- what an insertion is given, and what it does with that
+abbrev pub params : ℕ → Linked → Row
+params number one = shown (at_number number one)
+
+abbrev pub command : Command
+command = Insert 0 (Values terms 5)
+
+abbrev pub insert_statement : List ℕ
+insert_statement = statement_of insert_text (understood checkpoint_schema insert_text)
+
+-- the edit that it makes, by which one row is new
+abbrev pub insert_edit : Trees → ℕ → Linked → Edit
+insert_edit db number one = edit_of db checkpoint [] Chosen 0 (value_rows (stamped checkpoint (params number one)) 5 1 terms)
+
+pub news_are : (db : Trees) (number : ℕ) (one : Linked) → (insert_edit db number one).news ≡ stored (at_number number one) ∷ []
+unfolding unary
+news_are db number one = grind arith

@@ -1,5 +1,5 @@
 -- What is stored for a checkpoint interval, and the list of these.
-use Rattle.std.specs.Prelude.{ℕ, ℤ, List, [], ◌∷◌, ◌++◌, Option, None, Some, string_bytes}
+use Rattle.std.specs.Prelude.{ℕ, List, [], ◌∷◌, ◌++◌, Option, None, Some, string_bytes}
 use Rattle.jb_slice_file.specs.declared.checkpoint.Checkpoint.{Checkpoint}
 
 -- a checkpoint as bytes: the text to resume from, and the results that are new since the one before

@@ -12,10 +12,13 @@ pub record Numbered : Type 0 where
 abbrev pub numbered : Found → Numbered
 numbered found = record { number = found.number; linked = record { it = checkpoint_bytes found.checkpoint; link = found.link.items } }
 
+abbrev pub at_number : ℕ → Linked → Numbered
+at_number number one = record { number = pos number; linked = one }
+
 -- numbered one after the other, from a number on
 abbrev pub numbered_from : ℕ → List Linked → List Numbered
 numbered_from number [] = []
-numbered_from number (one ∷ more) = record { number = pos number; linked = one } ∷ numbered_from (suc number) more
+numbered_from number (one ∷ more) = at_number number one ∷ numbered_from (suc number) more
 
 -- THE CHECKPOINT WITH THIS NUMBER, OR ONE BEFORE IT, WAS CHANGED: those before it are chained, and its link isn't the right one
 pub record IsAlteredAt (number : ℕ) (found : List Numbered) : Type 0 where

@@ -1,5 +1,5 @@
 -- The list of checkpoints, and the rows that hold it.
-use Rattle.std.specs.Prelude.{◌≡◌, ◌≢◌, ◌⊎◌, ◌++◌, ◌≤◌, ◌<◌, ◌+◌, ◌^◌, ℕ, suc, List, [], ◌∷◌, length, pos, IsPermutation}
+use Rattle.std.specs.Prelude.{◌≡◌, ◌≢◌, ◌⊎◌, ◌++◌, ◌≤◌, ◌<◌, ◌+◌, ◌^◌, ℕ, suc, List, [], ◌∷◌, length, map, IsPermutation}
 use Rattle.sqlite.specs.declared.types.Value.TheVariants.{Null, Int, Text as Words, Blob as Bytes}
 use Rattle.sqlite.specs.Order.{Row}
 use Rattle.sqlite.specs.Tree.{Trees}
@@ -7,29 +7,23 @@ use Rattle.sqlite.specs.Effect.{Database}
 use Rattle.sqlite_catalog.specs.Listing.{IsSound}
 use Rattle.jb_slice_file.specs.CheckpointBytes.{CheckpointBytes}
 use Rattle.jb_slice_file.specs.Chain.{Linked, chained, last_link, link_of}
-use Rattle.jb_slice_file.specs.Numbered.{Numbered}
+use Rattle.jb_slice_file.specs.Numbered.{Numbered, numbered_from}
 use Rattle.jb_slice_file.specs.TableSchema.{checkpoint_schema, no_schema}
 
 -- the row of a checkpoint: SQLite stores the number as the rowid, and NULL in the number's column
-abbrev pub stored : ℕ → Linked → Row
-stored number one = Int (pos number) ∷ Null ∷ Words one.it.saved ∷ Bytes one.it.results ∷ Bytes one.link ∷ []
+abbrev pub stored : Numbered → Row
+stored found = Int found.number ∷ Null ∷ Words found.linked.it.saved ∷ Bytes found.linked.it.results ∷ Bytes found.linked.link ∷ []
 
 -- the row as `SELECT number, saved, results, link` shows it
-abbrev pub shown : ℕ → Linked → Row
-shown number one = Int (pos number) ∷ Words one.it.saved ∷ Bytes one.it.results ∷ Bytes one.link ∷ []
-
--- the same with any integer as the number
-abbrev pub columns_of : Numbered → Row
-columns_of found = Int found.number ∷ Words found.linked.it.saved ∷ Bytes found.linked.it.results ∷ Bytes found.linked.link ∷ []
+abbrev pub shown : Numbered → Row
+shown found = Int found.number ∷ Words found.linked.it.saved ∷ Bytes found.linked.it.results ∷ Bytes found.linked.link ∷ []
 
 -- numbered one after the other
 abbrev pub stored_from : ℕ → List Linked → List Row
-stored_from number [] = []
-stored_from number (one ∷ more) = stored number one ∷ stored_from (suc number) more
+stored_from number all = map stored (numbered_from number all)
 
 abbrev pub shown_from : ℕ → List Linked → List Row
-shown_from number [] = []
-shown_from number (one ∷ more) = shown number one ∷ shown_from (suc number) more
+shown_from number all = map shown (numbered_from number all)
 
 -- THE TABLE'S ROWS ARE THESE CHECKPOINTS and no others, numbered from 1 on, each with its link, in any order
 abbrev pub AreIn : Trees → List CheckpointBytes → Type 0

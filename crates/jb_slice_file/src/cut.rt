@@ -3,19 +3,19 @@
 ghost use Rattle.std.specs.Prelude.{◌≡◌, ◌⊎◌, Bool, false, true, IfOk, IfErr, IfSome, IsTrue};
 ghost use Rattle.jb_slice_file.specs.Connections.{IsJustOpened};
 ghost use Rattle.jb_slice_file.specs.TableSchema.{checkpoint_schema, no_schema};
-ghost use Rattle.jb_slice_file.specs.Files.{HasRunCheckpoints, Leaves, LeavesImage, MayGoOn, has_store};
+ghost use Rattle.jb_slice_file.specs.Files.{HasRunCheckpoints, Leaves, MayGoOn};
 ghost use Rattle.jb_slice_file.specs.ProcessRuns.{IsProcessRunOver};
 ghost use Rattle.jb_slice_file.specs.DiskHistory.{IsHistoryOf};
+ghost use Rattle.jb_slice_file.specs.RecordingDisk.{disk_of};
 ghost use Rattle.sqlite.specs.Files.{Finds, IsCleanLeft, LeavesFiles, file_state};
 ghost use Rattle.sqlite.specs.State.{HasCleanDisk};
 ghost use Rattle.sqlite_wal.specs.Files.{outcomes};
-ghost use Rattle.sqlite_wal.specs.Reads.{AreClean};
 ghost use Rattle.sqlite_wal.specs.Recovery.{Image};
 
 use crate::files::closed;
 use crate::opening::takes;
 use crate::recording_disk::{DiskHistory, RecordingDisk};
-use crate::stop::{ProcessRun, crash, with_history, without_history};
+use crate::stop::{ProcessRun, crash_recording, with_history};
 use sqlite::{Connection, FileStore, Leftover, Options};
 use sqlite_disk::{Crash, Disk, Files};
 use std::alloc::Global;
@@ -46,22 +46,19 @@ pub fn open_own<D: Disk + Drop>(
     }
 }
 
-/// The machine stops during an open, or after one that failed.
+/// The machine stops during an open of files, or after one that failed.
 fn cut_short<D: Crash + Drop, G: DiskHistory>(
     left: Leftover<RecordingDisk<D, G>>,
 ) -> Option<ProcessRun<D>>
     ensures cut { IfSome result (λ process_run. process_run.has_run ≡ false) }
-    ensures usable { IfSome result (λ process_run. IsTrue (D.Disk.is_usable process_run.files.log) × IsTrue (D.Disk.is_usable process_run.files.db)) }
-    ensures clean { IfSome result (λ process_run. AreClean D.Disk process_run.files.log process_run.files.db → (is_log : Bool) → IsTrue (G.DiskHistory.was_clean is_log)) }
-    ensures rest { IfSome result (λ process_run. AreClean D.Disk process_run.files.log process_run.files.db → IsCleanLeft left) }
-    ensures left { IfSome result (λ process_run. AreClean D.Disk process_run.files.log process_run.files.db → (image : Image) → outcomes D.Disk process_run.files.log process_run.files.db image → LeavesImage left image) }
-    ensures same { IfSome result (λ process_run. process_run.is_loose ≡ false → IsTrue (has_store left) → (image : Image) → outcomes D.Disk process_run.files.log process_run.files.db image
-        → ∥ G.DiskHistory.could_leave true image.log × G.DiskHistory.could_leave false image.db ∥₁) }
+    ensures over { (before : _) (files : _) → IsHistoryOf D.Disk G.DiskHistory.was_clean G.DiskHistory.could_leave before
+        → ((image : Image) → outcomes D.Disk (disk_of files.log) (disk_of files.db) image → outcomes D.Disk before.log before.db image)
+        → (IsCleanLeft left → LeavesFiles files left) → IfSome result (IsProcessRunOver D.Disk G.DiskHistory.is_so_far before) }
 {
     let is_behind = matches!(&left, Leftover::Store(_));
-    let (files, has_written) = without_history(left.into_files())?;
+    let (files, has_written) = crash_recording(left.into_files())?;
     Some(ProcessRun {
-        files: crash(files),
+        files,
         has_run: false,
         is_loose: is_behind & has_written,
     })

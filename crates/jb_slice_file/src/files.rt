@@ -8,7 +8,7 @@ ghost use Rattle.jb_slice_file.specs.Errors.{refusal_named};
 ghost use Rattle.jb_slice_file.specs.Files.{HoldsWhole};
 ghost use Rattle.jb_slice_file.specs.ListEnd.{IsEndOf};
 ghost use Rattle.sqlite.specs.declared.error.Error.{Error as SqlError};
-ghost use Rattle.sqlite.specs.Files.{HoldsDatabase, IsNothing, file_state, image_of};
+ghost use Rattle.sqlite.specs.Files.{Finds, HoldsDatabase, IsNothing, file_state, image_of};
 ghost use Rattle.sqlite.specs.State.{HasCleanDisk};
 ghost use Rattle.sqlite_trees.specs.Tree.{Trees};
 ghost use Rattle.sqlite_wal.specs.Files.{image_at, outcomes};
@@ -39,8 +39,9 @@ fn with_list<D: Disk + Drop>(
     conn: Connection<FileStore<D>>,
 ) -> Result<(Connection<FileStore<D>>, Vec<Checkpoint>, ListEnd), StoreError>
     ensures end { IfOk result (λ r. IsEndOf r.2 (map checkpoint_bytes r.1.items)) }
-    ensures taken { IfOk result (λ r. HasCleanDisk (file_state r.0) → HasCleanDisk (file_state conn)
-        × (IsJustOpened (file_state conn) → Keeps (file_state r.0) (map checkpoint_bytes r.1.items) × ((all : _) → ShowsList (file_state conn).now all → map checkpoint_bytes r.1.items ≡ all))) }
+    ensures early { IfOk result (λ r. HasCleanDisk (file_state r.0) → HasCleanDisk (file_state conn)) }
+    ensures begun { IfOk result (λ r. HasCleanDisk (file_state r.0) → IsJustOpened (file_state conn) → Keeps (file_state r.0) (map checkpoint_bytes r.1.items)) }
+    ensures listed { IfOk result (λ r. HasCleanDisk (file_state r.0) → IsJustOpened (file_state conn) → (all : _) → ShowsList (file_state conn).now all → map checkpoint_bytes r.1.items ≡ all) }
 {
     let mut conn = conn;
     match begin(alloc, &mut conn) {
@@ -49,6 +50,23 @@ fn with_list<D: Disk + Drop>(
             let _files = closed(conn);
             Err(error)
         }
+    }
+}
+
+/// A connection to a log and its database file.
+fn connect_files<D: Disk + Drop>(
+    alloc: Global,
+    files: Files<D>,
+    options: Options,
+) -> Result<Connection<FileStore<D>>, StoreError>
+    requires log { IsTrue (D.Disk.is_usable files.log) }
+    requires db { IsTrue (D.Disk.is_usable files.db) }
+    ensures opened { IfOk result (λ conn. HasCleanDisk (file_state conn) → IsJustOpened (file_state conn)) }
+    ensures finds { IfOk result (λ conn. HasCleanDisk (file_state conn) → Finds files conn) }
+{
+    match Connection::open_files(alloc, files, options) {
+        Ok(conn) => Ok(conn),
+        Err((error, _)) => Err(StoreError::from(error)),
     }
 }
 
@@ -66,10 +84,8 @@ pub fn open_files<D: Disk + Drop>(
     ensures nothing { IfOk result (λ r. HasCleanDisk (file_state r.0) → IsNothing (image_of D.Disk files) → map checkpoint_bytes r.1.items ≡ []) }
     ensures honest { IfOk result (λ r. HasCleanDisk (file_state r.0) → AreClean D.Disk files.log files.db) }
 {
-    match Connection::open_files(alloc, files, options) {
-        Ok(conn) => with_list(alloc, conn),
-        Err((error, _)) => Err(StoreError::from(error)),
-    }
+    let conn = connect_files(alloc, files, options)?;
+    Ok(with_list(alloc, conn)?)
 }
 
 /// A connection to the file at a path and to its log beside it. The file is made if it doesn't exist. The list isn't taken yet, and no table is
@@ -102,5 +118,5 @@ pub fn open<S: Start>(
     ensures nothing { IfOk result (λ r. HasCleanDisk (file_state r.0) → IsNothing (image_at S.Start) → map checkpoint_bytes r.1.items ≡ []) }
 {
     let conn = connect(rt, path, start)?;
-    with_list(rt.alloc(), conn)
+    Ok(with_list(rt.alloc(), conn)?)
 }

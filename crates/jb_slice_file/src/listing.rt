@@ -1,10 +1,11 @@
 //! The list of a database that has the table.
 
-ghost use Rattle.std.specs.Prelude.{◌≡◌, ◌≢◌, ◌⊎◌, ◌≤◌, map, IfOk, IfErr, IsTrue, OnOk};
+ghost use Rattle.std.specs.Prelude.{◌≡◌, ◌≢◌, ◌⊎◌, ◌≤◌, length, map, IfOk, IfErr, IsPermutation, IsTrue, OnOk};
+ghost use Rattle.std.specs.List.{AllByRecursion};
 ghost use Rattle.jb_slice_file.specs.declared.error.StoreError.TheVariants.{Altered, Foreign, Gap, Version};
-ghost use Rattle.jb_slice_file.specs.Errors.{IsListFault, IsListRefusal};
+ghost use Rattle.jb_slice_file.specs.Errors.{IsListFault, IsListRefusal, IsStoreFault};
 ghost use Rattle.jb_slice_file.specs.TableSchema.{checkpoint_schema};
-ghost use Rattle.jb_slice_file.specs.Rows.{AreIn, HasGap, HoldsList, IsAltered};
+ghost use Rattle.jb_slice_file.specs.Rows.{AreIn, HasGap, HoldsList, IsAltered, shown, shown_from, stored, stored_from};
 ghost use Rattle.jb_slice_file.specs.CheckpointBytes.{checkpoint_bytes};
 ghost use Rattle.jb_slice_file.specs.Connections.{Keeps};
 ghost use Rattle.jb_slice_file.specs.ListEnd.{IsEndOf};
@@ -18,8 +19,35 @@ use crate::checkpoint::Checkpoint;
 use crate::error::StoreError;
 use crate::list_end::ListEnd;
 use crate::reading::checkpoints_of;
-use sqlite::{Alter, Connection};
+use sqlite::{Alter, Connection, Row};
 use std::alloc::Global;
+
+/// All rows, in the order of their numbers.
+fn all_rows<S: Alter>(conn: &mut Connection<S>) -> Result<Vec<Row>, StoreError>
+    ensures wide { HasCleanDisk (state S.Store conn.new) → (state S.Store conn.old).now.schema ≡ checkpoint_schema → IfOk result (λ rows. AllByRecursion (λ row. length row ≡ 4) rows.items) }
+    ensures lists { HasCleanDisk (state S.Store conn.new) → (state S.Store conn.old).now.schema ≡ checkpoint_schema
+        → (all : _) → IsPermutation (stored_from 1 all) ((state S.Store conn.old).now.trees 0) → IfOk result (λ rows. rows.items ≡ shown_from 1 all) }
+    ensures back { HasCleanDisk (state S.Store conn.new) → (state S.Store conn.old).now.schema ≡ checkpoint_schema → IsSound checkpoint_schema (state S.Store conn.old).now.trees
+        → IfOk result (λ rows. (found : _) → rows.items ≡ map shown found → IsPermutation (map stored found) ((state S.Store conn.old).now.trees 0)) }
+    ensures kept { HasCleanDisk (state S.Store conn.new) → (all : _) → Keeps (state S.Store conn.old) all → OnOk result (Keeps (state S.Store conn.new) all) }
+    ensures named { IfErr result (λ e. ¬ IsListRefusal e) }
+    ensures untouched { HasCleanDisk (state S.Store conn.new) → (state S.Store conn.old).now.schema ≡ checkpoint_schema
+        → OnOk result ((state S.Store conn.new).now ≡ (state S.Store conn.old).now) }
+    ensures clean { doubt (state S.Store conn.old).is_clean ≤ doubt (state S.Store conn.new).is_clean }
+    ensures crash { HasCleanDisk (state S.Store conn.new) → (state S.Store conn.old).now.schema ≡ checkpoint_schema
+        → (db : _) → (state S.Store conn.new).may_leave db → (state S.Store conn.old).may_leave db }
+    ensures cause { HasCleanDisk (state S.Store conn.new) → (state S.Store conn.old).now.schema ≡ checkpoint_schema
+        → IfErr result (IsStoreFault (state S.Store conn.old) (state S.Store conn.new)) }
+    ensures counts { (state S.Store conn.old).faults ≤ (state S.Store conn.new).faults }
+    ensures shut { HasCleanDisk (state S.Store conn.new) → IsTrue (state S.Store conn.old).is_open
+        → IsTrue (state S.Store conn.new).is_open ⊎ MoreFaults (state S.Store conn.old).faults (state S.Store conn.new).faults }
+{
+    let rows = conn.query_all(
+        "SELECT number, saved, results, link FROM checkpoint ORDER BY number",
+        &[],
+    )?;
+    Ok(rows)
+}
 
 /// All checkpoints in their order, and where they end. `Gap` if the numbers of the rows aren't 1, 2, 3 and so on. `Altered` if one has a
 /// wrong link.
@@ -48,9 +76,6 @@ pub fn list<S: Alter>(
     ensures shut { HasCleanDisk (state S.Store conn.new) → IsTrue (state S.Store conn.old).is_open
         → IsTrue (state S.Store conn.new).is_open ⊎ MoreFaults (state S.Store conn.old).faults (state S.Store conn.new).faults }
 {
-    let rows = conn.query_all(
-        "SELECT number, saved, results, link FROM checkpoint ORDER BY number",
-        &[],
-    )?;
+    let rows = all_rows(conn)?;
     checkpoints_of(alloc, &rows)
 }

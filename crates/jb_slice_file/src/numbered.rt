@@ -1,7 +1,7 @@
 //! Checkpoints with the numbers and the links with which they were found, and the list that they are.
 
 ghost use Rattle.std.specs.Prelude.{◌≡◌, ◌⊎◌, ◌↔◌, map, pos, IfErr, IfOk, IsTrue};
-ghost use Rattle.jb_slice_file.specs.Chain.{chained};
+ghost use Rattle.jb_slice_file.specs.Chain.{chained, link_of as link_after};
 ghost use Rattle.jb_slice_file.specs.CheckpointBytes.{checkpoint_bytes};
 ghost use Rattle.jb_slice_file.specs.ListEnd.{IsEndOf};
 ghost use Rattle.jb_slice_file.specs.Numbered.{IsAlteredAt, numbered, numbered_from};
@@ -30,6 +30,14 @@ fn is_under(one: &Found, number: u64) -> bool
     }
 }
 
+/// The link that it must have under this number, after this link.
+fn right_link(last: &[u8; 32], number: u64, one: &Found) -> [u8; 32]
+    ensures { result ≡ link_after last.now number (checkpoint_bytes one.now.checkpoint) }
+{
+    let Checkpoint { saved, results } = &one.checkpoint;
+    link_of(last, number, saved.as_str(), results.as_slice())
+}
+
 /// Whether it was found with this link.
 fn has_link(one: &Found, link: &[u8; 32]) -> bool
     ensures { IsTrue result ↔ (one.now.link.items ≡ link.now) }
@@ -55,8 +63,7 @@ pub(crate) fn in_order(
         if !is_under(&one, number) {
             return Err(StoreError::Gap);
         }
-        let Checkpoint { saved, results } = &one.checkpoint;
-        let link = link_of(&last, number, saved.as_str(), results.as_slice());
+        let link = right_link(&last, number, &one);
         if !has_link(&one, &link) {
             return Err(StoreError::Altered(number));
         }

@@ -15,7 +15,7 @@ ghost use Rattle.sqlite_trees.specs.View.{doubt};
 
 use crate::checkpoint::Checkpoint;
 use crate::error::StoreError;
-use crate::list_end::ListEnd;
+use crate::list_end::{ListEnd, NO_LINK};
 use crate::listing::list;
 use crate::table_schema::{is_blank, is_ours, names_checkpoint};
 use sqlite::{Alter, Connection};
@@ -23,7 +23,7 @@ use sqlite_schema::schema::Schema;
 use std::alloc::Global;
 
 /// Why a database with this schema isn't opened.
-#[tactic(auto, using(crate::proofs::Named::ours_is_named))]
+#[tactic(auto, unfolding(sqlite_schema::specs::Names::same_name))]
 fn refusal_of(schema: &Schema) -> Option<StoreError>
     ensures fits { (result ≡ None) ↔ ((schema.now ≡ no_schema) ⊎ (schema.now ≡ checkpoint_schema)) }
     ensures foreign { (result ≡ Some Foreign) ↔ IsForeign schema.now }
@@ -39,26 +39,32 @@ fn refusal_of(schema: &Schema) -> Option<StoreError>
     }
 }
 
-/// Makes the table if nothing is defined yet.
+/// What holds of a connection that was just opened. Nothing is done here: the clauses are laws.
+#[tactic(auto, using(crate::proofs::Opened::has_left, crate::proofs::Opened::is_left))]
+fn opened_laws<S: Alter>(conn: &Connection<S>)
+    ensures shown { IsJustOpened (state S.Store conn.now) → (all : _) → Has (state S.Store conn.now).now.trees all → ShowsList (state S.Store conn.now).now all }
+    ensures only { IsJustOpened (state S.Store conn.now) → (db : _) → (state S.Store conn.now).may_leave db → db ≡ (state S.Store conn.now).now.trees }
+    ensures left { IsJustOpened (state S.Store conn.now) → (all : _) → ShowsList (state S.Store conn.now).now all
+        → (db : _) → (db ≡ (state S.Store conn.now).now.trees) ⊎ (((state S.Store conn.now).now.schema ≡ no_schema) × StandsFor db []) → Has db all }
+{}
+
+/// Makes the table.
 fn make<S: Alter>(conn: &mut Connection<S>) -> Result<(), StoreError>
     ensures made { HasCleanDisk (state S.Store conn.new) → (state S.Store conn.old).now.schema ≡ no_schema → (state S.Store conn.old).in_transaction ≡ false
         → OnOk result (Keeps (state S.Store conn.new) []) }
-    ensures defined { (state S.Store conn.old).now.schema ≢ no_schema → IsOk result × (conn.new ≡ conn.old) }
     ensures named { IfErr result (λ e. ¬ IsListRefusal e) }
     ensures clean { doubt (state S.Store conn.old).is_clean ≤ doubt (state S.Store conn.new).is_clean }
     ensures crash { HasCleanDisk (state S.Store conn.new) → (state S.Store conn.old).now.schema ≡ no_schema → (db : _) → (state S.Store conn.new).may_leave db
         → (state S.Store conn.old).may_leave db ⊎ StandsFor db [] }
-    ensures cause { HasCleanDisk (state S.Store conn.new) → IfErr result (IsStoreFault (state S.Store conn.old) (state S.Store conn.new)) }
+    ensures cause { HasCleanDisk (state S.Store conn.new) → (state S.Store conn.old).now.schema ≡ no_schema → IfErr result (IsStoreFault (state S.Store conn.old) (state S.Store conn.new)) }
     ensures counts { (state S.Store conn.old).faults ≤ (state S.Store conn.new).faults }
     ensures shut { HasCleanDisk (state S.Store conn.new) → IsTrue (state S.Store conn.old).is_open
         → IsTrue (state S.Store conn.new).is_open ⊎ MoreFaults (state S.Store conn.old).faults (state S.Store conn.new).faults }
 {
-    if is_blank(conn.schema()) {
-        conn.execute(
-            "CREATE TABLE checkpoint (number INTEGER PRIMARY KEY, saved TEXT NOT NULL, results BLOB NOT NULL, link BLOB NOT NULL) STRICT",
-            &[],
-        )?;
-    }
+    conn.execute(
+        "CREATE TABLE checkpoint (number INTEGER PRIMARY KEY, saved TEXT NOT NULL, results BLOB NOT NULL, link BLOB NOT NULL) STRICT",
+        &[],
+    )?;
     Ok(())
 }
 
@@ -94,10 +100,20 @@ pub fn begin<S: Alter>(
     ensures left { HasCleanDisk (state S.Store conn.new) → IsJustOpened (state S.Store conn.old) → (all : _) → ShowsList (state S.Store conn.old).now all
         → (db : _) → (state S.Store conn.new).may_leave db → Has db all }
 {
+    opened_laws(conn);
     if let Some(refusal) = refusal_of(conn.schema()) {
         return Err(refusal);
     }
-    make(conn)?;
+    if is_blank(conn.schema()) {
+        make(conn)?;
+        return Ok((
+            Vec::new(alloc),
+            ListEnd {
+                count: 0,
+                link: NO_LINK,
+            },
+        ));
+    }
     list(alloc, conn)
 }
 
@@ -112,4 +128,6 @@ pub fn takes<S: Alter>(conn: &Connection<S>) -> bool
 pub fn opened_leaves_its_list<S: Alter>(conn: &Connection<S>)
     ensures { IsJustOpened (state S.Store conn.now) → (all : _) → ShowsList (state S.Store conn.now).now all
         → (db : _) → (state S.Store conn.now).may_leave db → Has db all }
-{}
+{
+    opened_laws(conn);
+}

@@ -1,6 +1,6 @@
 //! The machine stops, and what it leaves.
 
-ghost use Rattle.std.specs.Prelude.{◌≡◌, ◌&&◌, ◌||◌, not, Bool, false, true, IfSome, IsTrue};
+ghost use Rattle.std.specs.Prelude.{◌≡◌, ◌&&◌, ◌||◌, not, Bool, false, true, None, IfSome, IsTrue};
 ghost use Rattle.jb_slice_file.specs.Files.{HoldsRun, HasRunCheckpoints, Leaves};
 ghost use Rattle.jb_slice_file.specs.DiskHistory.{IsHistoryOf};
 ghost use Rattle.jb_slice_file.specs.RecordingDisk.{disk_of, has_written};
@@ -32,6 +32,7 @@ impl<D: Disk> ProcessRun<D> {
     /// began with. `None` if it wasn't known before, and this run is loose too.
     pub fn sure_after(&self, was_sure: bool) -> Option<bool>
         ensures known { IfSome result (λ _. (self.now.is_loose && not was_sure) ≡ false) }
+        ensures unknown { result ≡ None → (self.now.is_loose ≡ true) × (was_sure ≡ false) }
         ensures sure { IfSome result (λ is_sure. is_sure ≡ (self.now.has_run || (was_sure && not self.now.is_loose))) }
     {
         if self.is_loose && !was_sure {
@@ -42,7 +43,7 @@ impl<D: Disk> ProcessRun<D> {
 }
 
 /// The machine stops, and starts again.
-pub(crate) fn crash<D: Crash>(mut files: Files<D>) -> Files<D>
+fn crash<D: Crash>(mut files: Files<D>) -> Files<D>
     ensures usable { IsTrue (D.Disk.is_usable result.log) × IsTrue (D.Disk.is_usable result.db) }
     ensures clean { AreClean D.Disk result.log result.db → AreClean D.Disk files.log files.db }
     ensures left { (image : Image) → outcomes D.Disk result.log result.db image → outcomes D.Disk files.log files.db image }
@@ -71,7 +72,7 @@ fn are_in_place(first_is_log: bool, second_is_log: bool) -> bool
 }
 
 /// The two disks themselves, and whether something was written to one of them since. `None` if they have changed places.
-pub(crate) fn without_history<D: Disk + Drop, G: DiskHistory>(
+fn without_history<D: Disk + Drop, G: DiskHistory>(
     files: Files<RecordingDisk<D, G>>,
 ) -> Option<(Files<D>, bool)>
     ensures log { IfSome result (λ r. r.0.log ≡ disk_of files.log) }
@@ -94,6 +95,21 @@ pub(crate) fn without_history<D: Disk + Drop, G: DiskHistory>(
     ))
 }
 
+/// The machine stops over two such disks. They give the disks themselves, as `without_history` does.
+pub(crate) fn crash_recording<D: Crash + Drop, G: DiskHistory>(
+    files: Files<RecordingDisk<D, G>>,
+) -> Option<(Files<D>, bool)>
+    ensures usable { IfSome result (λ r. IsTrue (D.Disk.is_usable r.0.log) × IsTrue (D.Disk.is_usable r.0.db)) }
+    ensures clean { IfSome result (λ r. AreClean D.Disk r.0.log r.0.db → (is_log : Bool) → IsTrue (G.DiskHistory.was_clean is_log)) }
+    ensures sure { IfSome result (λ r. AreClean D.Disk r.0.log r.0.db → AreClean D.Disk (disk_of files.log) (disk_of files.db)) }
+    ensures left { IfSome result (λ r. (image : Image) → outcomes D.Disk r.0.log r.0.db image → outcomes D.Disk (disk_of files.log) (disk_of files.db) image) }
+    ensures same { IfSome result (λ r. r.1 ≡ false → (image : Image) → outcomes D.Disk r.0.log r.0.db image
+        → ∥ G.DiskHistory.could_leave true image.log × G.DiskHistory.could_leave false image.db ∥₁) }
+{
+    let (files, has_written) = without_history(files)?;
+    Some((crash(files), has_written))
+}
+
 /// A process run ends while its connection is open.
 pub fn stop_recording<D: Crash + Drop, G: DiskHistory>(
     conn: Connection<FileStore<RecordingDisk<D, G>>>,
@@ -105,9 +121,9 @@ pub fn stop_recording<D: Crash + Drop, G: DiskHistory>(
     ensures run { IfSome result (λ process_run. AreClean D.Disk process_run.files.log process_run.files.db
         → ((db : Trees) → (file_state conn).may_leave db → HasRunCheckpoints G.DiskHistory.is_so_far db) → Leaves D.Disk (HoldsRun G.DiskHistory.is_so_far) process_run.files) }
 {
-    let (files, _) = without_history(closed(conn))?;
+    let (files, _) = crash_recording(closed(conn))?;
     Some(ProcessRun {
-        files: crash(files),
+        files,
         has_run: true,
         is_loose: false,
     })

@@ -1,6 +1,6 @@
 -- An ended job is whole or has failed.
-use Rattle.std.proofs.Common.{◌≡◌, ℕ, zero, suc, ◌<◌, ◌≤◌, List, length, arith, inl, inr, ◌⊎◌, subst}
-use Rattle.std.{specs.Prelude.{None, Some, Option, MatchOption, ⊤}, proofs.lemmas.Bool.cases_lt}
+use Rattle.std.proofs.Common.{ℕ, zero, suc, ◌<◌, ◌≤◌, List, length, arith, inl, inr, ◌⊎◌, below_more}
+use Rattle.std.specs.Prelude.{Option, MatchOption, ⊤}
 use Rattle.jb_slices.specs.{Folder.{AreWholeBefore, Folder, HasFailedSlice, skips_before}, Job.{Job, Limits, slice_at}, JobLaws.EndedJobsAreEither, Slice.{Functions, IsSliceFailed, IsSliceWhole}}
 
 module _ (job : Job) (functions : Functions) (limits : Limits) (items : List (List ℕ)) (folder : Folder) where
@@ -15,16 +15,12 @@ module _ (job : Job) (functions : Functions) (limits : Limits) (items : List (Li
     | inr failed ↦ inr (record { number = k; failed = failed })
     | inl here ↦ elim (up-to k (λ j low. ended j (omega (arith, low)))) [
       | inr failed ↦ inr failed
-      | inl before ↦ inl (λ j low. elim (cases_lt j k) [
-        | inl less ↦ before j less
-        | inr more ↦ let same : k ≡ j = omega (arith, low, more) in subst IsWhole same here
-      ])
+      | inl before ↦ inl (λ j low. below_more IsWhole k before here j (omega (arith, low)))
     ]
   ]
 
 few-or-not : (limit : Option ℕ) (n : ℕ) → MatchOption limit ⊤ (λ l. n ≤ l) ⊎ (MatchOption limit ⊤ (λ l. n ≤ l) → ⊥)
-few-or-not None n = inl tt
-few-or-not (Some l) n = elim (cases_lt l n) [ inl less ↦ inr (λ few. omega (arith, few, less)) | inr few ↦ inl few ]
+few-or-not limit n = grind arith
 
 pub either : EndedJobsAreEither
 either job functions limits items folder e =

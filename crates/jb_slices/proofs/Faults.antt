@@ -1,51 +1,32 @@
 -- Faults of items, one after the other.
 use Rattle.std.proofs.Common.{◌≡◌, ℕ, zero, suc, ◌+◌, ◌≤◌, List, [], ◌∷◌, ◌++◌, length, take, drop, refl, ap, sym, ◌∙◌, arith, length-append, subst}
-use Rattle.std.{specs.Prelude.{None, Some, Option, MatchOption, ⊤, true}, specs.List.{AllByRecursion, cons_option}, proofs.lemmas.List.take-append-drop, proofs.lemmas.List.Elements.filter_map-append}
+use Rattle.std.{specs.Prelude.true, specs.List.AllByRecursion, proofs.lemmas.List.take-append-drop, proofs.lemmas.List.Elements.filter_map-append}
 use Rattle.jb_base.{specs.Rules.RulesRecord, specs.declared.class.ClassId.ClassId}
 use Rattle.jb_rules.specs.Decide.{has_class}
-use Rattle.jb_slices.specs.Function.{Fault, Function, ItemsPass, Pass, all_results, fault_and, fault_classes, faults_from, refusal_of, result_of}
+use Rattle.jb_slices.specs.Function.{Function, ItemsPass, Pass, all_results, fault_classes, faults_from, refusal_of, result_of}
 
-pub results-append : (f : Function) (xs ys : List (List ℕ)) → all_results f (xs ++ ys) ≡ all_results f xs ++ all_results f ys
-results-append f xs ys = filter_map-append (result_of f) xs ys
+pub results-split : (f : Function) (first k second : ℕ) (items : List (List ℕ)) → first + k ≡ second → all_results f (take k items) ++ all_results f (drop k items) ≡ all_results f items
+results-split f first k second items e = sym (filter_map-append (result_of f) (take k items) (drop k items)) ∙ ap (all_results f) (take-append-drop k items)
 
 pub classes-append : (f : Function) (xs ys : List (List ℕ)) → fault_classes f (xs ++ ys) ≡ fault_classes f xs ++ fault_classes f ys
 classes-append f xs ys = filter_map-append (refusal_of f) xs ys
 
 -- ---- with their numbers
 
-and-append : (number : ℕ) (refusal : Option ClassId) (later more : List Fault) → fault_and number refusal later ++ more ≡ fault_and number refusal (later ++ more)
-and-append number None later more = refl
-and-append number (Some class) later more = refl
-
 pub faults-split : (f : Function) (first k second : ℕ) (items : List (List ℕ)) → first + k ≡ second
     → faults_from f first (take k items) ++ faults_from f second (drop k items) ≡ faults_from f first items
 faults-split f first zero second items e = let same : second ≡ first = omega (arith, e) in ap (λ (n : ℕ). faults_from f n items) same
 faults-split f first (suc k) second [] e = refl
-faults-split f first (suc k) second (item ∷ items) e =
-    and-append first (refusal_of f item) (faults_from f (suc first) (take k items)) (faults_from f second (drop k items))
-    ∙ ap (fault_and first (refusal_of f item)) (faults-split f (suc first) k second items (omega (arith, e)))
-
-count-by : (number : ℕ) (refusal : Option ClassId) (later : List Fault) (classes : List ClassId) → length later ≡ length classes
-    → length (fault_and number refusal later) ≡ length (cons_option refusal classes)
-count-by number None later classes e = e
-count-by number (Some class) later classes e = ap suc e
+faults-split f first (suc k) second (item ∷ items) e = grind (arith, faults-split f (suc first) k second items (omega (arith, e)))
 
 pub faults-count : (f : Function) (first : ℕ) (items : List (List ℕ)) → length (faults_from f first items) ≡ length (fault_classes f items)
 faults-count f first [] = refl
-faults-count f first (item ∷ items) = count-by first (refusal_of f item) (faults_from f (suc first) items) (fault_classes f items) (faults-count f (suc first) items)
+faults-count f first (item ∷ items) = grind (arith, faults-count f (suc first) items)
 
 -- ---- limits
 
-pub few-less : (limit : Option ℕ) (m n : ℕ) → m ≤ n → MatchOption limit ⊤ (λ l. n ≤ l) → MatchOption limit ⊤ (λ l. m ≤ l)
-few-less None m n less few = tt
-few-less (Some l) m n less few = omega (arith, less, few)
-
-few-none : (limit : Option ℕ) → MatchOption limit ⊤ (λ l. 0 ≤ l)
-few-none None = tt
-few-none (Some l) = omega arith
-
 pub pass-none : (rules : RulesRecord) → Pass rules []
-pass-none rules = record { skippable = tt; few = few-none rules.skip_limit }
+pass-none rules = record { skippable = tt; few = grind arith }
 
 -- ---- fronts
 
@@ -54,11 +35,7 @@ all-parts P [] ys all = (tt, all)
 all-parts P (x ∷ xs) ys all = let rest = all-parts P xs ys all.1 in ((all.0, rest.0), rest.1)
 
 pub pass-front : (rules : RulesRecord) (xs ys : List ClassId) → Pass rules (xs ++ ys) → Pass rules xs
-pass-front rules xs ys pass =
-    let sizes = length-append xs ys in record {
-      skippable = (all-parts (λ (class : ClassId). has_class rules.skippable class ≡ true) xs ys pass.skippable).0;
-      few = few-less rules.skip_limit (length xs) (length (xs ++ ys)) (omega (arith, sizes)) pass.few;
-    }
+pass-front rules xs ys pass = record { skippable = (all-parts (λ (class : ClassId). has_class rules.skippable class ≡ true) xs ys pass.skippable).0; few = grind (arith, length-append) }
 
 classes-split : (f : Function) (n : ℕ) (items : List (List ℕ)) → fault_classes f items ≡ fault_classes f (take n items) ++ fault_classes f (drop n items)
 classes-split f n items = ap (fault_classes f) (sym (take-append-drop n items)) ∙ classes-append f (take n items) (drop n items)
@@ -68,7 +45,4 @@ items-pass-front f rules n items pass =
     pass-front rules (fault_classes f (take n items)) (fault_classes f (drop n items)) (subst (λ (classes : List ClassId). Pass rules classes) (classes-split f n items) pass)
 
 pub fewer-classes : (f : Function) (n : ℕ) (items : List (List ℕ)) → length (fault_classes f (take n items)) ≤ length (fault_classes f items)
-fewer-classes f n items =
-    let e = ap length (classes-split f n items) in
-    let sizes = length-append (fault_classes f (take n items)) (fault_classes f (drop n items)) in
-    omega (arith, e, sizes)
+fewer-classes f n items = let e = ap length (classes-split f n items) in grind (arith, length-append)

@@ -1,7 +1,6 @@
 pub mod Lists
 pub mod Faults
 pub mod Following
-pub mod Telling
 pub mod Having
 pub mod Raising
 pub mod Passing

@@ -10,4 +10,4 @@ drop-drop a b c xs e = drop_twice b a xs ∙ ap (λ n. drop n xs) e
 
 -- a front of a whole front, after those before it
 pub drop-front : {A : Type 0} → (a b c : ℕ) (xs : List A) → a + b ≡ c → drop a (take c xs) ≡ take b (drop a xs)
-drop-front a b c xs e = ap (λ n. drop a (take n xs)) (sym e) ∙ drop-take a b xs
+drop-front a b c xs e = let same : c ≡ a + b = sym e in rw same (drop-take a b xs)

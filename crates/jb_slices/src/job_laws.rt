@@ -11,6 +11,7 @@ pub fn jobs_have_results()
 {}
 
 /// One slice at most is the last one.
+#[tactic(auto, using(crate::proofs::Jobs::not_before))]
 pub fn one_slice_is_last()
     ensures { LastSlicesAreOne }
 {}

@@ -26,7 +26,7 @@ pub fn parts_cover()
 {}
 
 /// What becomes of faults one by one is what the rules let pass of them all.
-#[tactic(auto, using(crate::proofs::Deciding::skips, crate::proofs::Deciding::fails, crate::proofs::Deciding::ends))]
+#[tactic(auto, using(crate::proofs::Deciding::skips, crate::proofs::Deciding::fails))]
 pub fn choices_are_the_rules()
     ensures skip { SkipsPass }
     ensures fail { FailsDont }

@@ -11,14 +11,13 @@ pub fn slices_have_results()
 {}
 
 /// A slice so far stays so with one more checkpoint that may follow, and so does a front of its checkpoints.
-#[tactic(auto, using(crate::proofs::Following::one_more, crate::proofs::Following::fronts))]
+#[tactic(auto, using(crate::proofs::Following::one_more, crate::proofs::Following::follow_parts))]
 pub fn slices_follow()
     ensures more { OneMoreFollows }
     ensures front { FrontsAreSoFar }
 {}
 
 /// The header names the job, the slice's number and the items.
-#[tactic(auto, using(crate::proofs::Telling::headers, crate::proofs::Telling::told, crate::proofs::Telling::own))]
 pub fn headers_identify_slices()
     ensures each { FirstIsHeader }
     ensures told { HeadersIdentifySlices }
@@ -34,7 +33,7 @@ pub fn slices_follow_the_rules()
 {}
 
 /// The list of a slice names the fault by which each failed partition failed.
-#[tactic(auto, using(crate::proofs::Naming::each, crate::proofs::Naming::all_named))]
+#[tactic(auto, using(crate::proofs::Naming::both))]
 pub fn failures_are_named()
     ensures each { FailuresAreNamed }
     ensures all { EachFailureIsNamed }

@@ -7,6 +7,7 @@ ghost use Rattle.jb_slices.specs.Job.{HasSlice, IsLastSlice, Job, slice_at};
 /// Whether a slice with this many items is the last one of its job. Each other slice of the job has `slice_length` items. If it isn't the last,
 /// there is a next one.
 #[must_use]
+#[tactic(auto, using(crate::proofs::Lasting::next_has))]
 pub fn is_last_slice(items: u64, slice_length: u64) -> bool
     ensures last { (job : Job) (all : List (List ℕ)) (number : ℕ) → job.slice_length ≡ slice_length → HasSlice job all number
         → length (slice_at job all number) ≡ items → MatchBool result (IsLastSlice job all number) (HasSlice job all (suc number)) }
@@ -16,6 +17,7 @@ pub fn is_last_slice(items: u64, slice_length: u64) -> bool
 
 /// The number of the last slice of a job over so many items, the first slice being 0.
 #[must_use]
+#[tactic(auto, using(crate::proofs::Lasting::lasting))]
 pub fn last_slice(items: u64, slice_length: u64) -> u64
     requires some { 0 < slice_length }
     ensures last { (job : Job) (all : List (List ℕ)) → job.slice_length ≡ slice_length → length all ≡ items → IsLastSlice job all result }

@@ -6,7 +6,7 @@ use Rattle.sqlite_trees.{specs.Tree.Trees, specs.View.IsClean, proofs.Doubt.no_d
 use Rattle.sqlite_store.specs.FileStore.{view}
 use Rattle.sqlite.specs.Files.{file_state}
 use Rattle.jb_slice_file.specs.Files.{HoldsWhole}
-use Rattle.jb_slice_file.proofs.Whole.{leaves_whole}
+use Rattle.jb_slice_file.proofs.Pages.{leaves_whole}
 use Rattle.jb_slice_file.proofs.files.closed.Goals as goal
 
 pub returns : goal.returns
