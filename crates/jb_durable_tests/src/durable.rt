@@ -171,5 +171,5 @@ fn memory_refused(rt: HostRuntime) -> Result<(), Fail> {
         }
         was_whole = is_whole;
     }
-    Err(Fail::from("no two lives were whole"))
+    Err(Fail::from("no two process runs in a row were whole"))
 }

@@ -1,34 +1,40 @@
--- The faults that a slice's place holds, from interval to interval.
-use Rattle.std.proofs.Common.{ℕ, suc, ◌≡◌, List, [], ◌∷◌, ◌++◌, length, map, option_map, Option, None, Some, Bor, refl, sym, ap, subst, ◌∙◌}
-use Rattle.std.proofs.lemmas.List.{length-map}
-use Rattle.std.specs.Prelude.{option_copied, slice_get}
+-- What the place of a slice has, from interval to interval: what is read of its checkpoints, and the faults that its run holds.
+use Rattle.std.proofs.{Common.{arith, length, length-append, ℕ, ◌≡◌, ◌≢◌, List, [], ◌∷◌, ◌++◌, map, Some, refl, sym, ap, subst, ◌∙◌, suc, replicate}, lemmas.List.{length-map}}
+use Rattle.jb_slice_run.{proofs.RowsGrown.{as-many}, specs.Named.{faults_by, faults_grown, one_after}, specs.Held.{AreIntervalsOf, HasRead, limits_in, limits_led, new_output_in, PlacesAreRead, new_output_grown, new_output_led, no_new_output, one_grown}, specs.SliceBytes.{AreStoredAs, IsStoredAs, KeepsSlice}}
+use Rattle.jb_slice_run.{specs.Laws.{BeginsWithHeader}, specs.Strings.{NewOutput, all_new_output, new_output_of}, specs.declared.partition_output.HeldSlice.{HeldSlice}, proofs.Beginning.{begins_with_header}, proofs.Telling.{all_once}}
 use Rattle.jb_slice_file.specs.CheckpointBytes.{CheckpointBytes}
-use Rattle.jb_slices.specs.{Checkpoint.Begins, Checkpoint.Checkpoint, Checkpoint.Header, Checkpoint.Progress, Job.Job, Job.Limits, Partitions.grown, Slice.Functions, Slice.slice_state}
-use Rattle.jb_slice_run.specs.Named.{Faults, HoldsFaults, faults_by, faults_grown, faults_held, one_after}
-use Rattle.jb_slice_run.specs.{Held.AreIntervalsOf, Held.HasRead, Held.new_output_in, SliceBytes.AreStoredAs, Laws.BeginsWithHeader, Strings.NewOutput, Strings.all_new_output, Strings.new_output_of, declared.fault.PartitionFaults.PartitionFaults}
-use Rattle.jb_slice_run.specs.declared.partition_output.HeldSlice.{HeldSlice}
-use Rattle.jb_slice_run.proofs.{Places.places_are_read, Telling.all_once}
+use Rattle.jb_slices.specs.{Checkpoint.{Begins, Checkpoint, Header, Progress, GoesOn}, Job.{Job, Limits}, Partitions.{grown}, Slice.{Functions, slice_state, SliceState, led, next, start}}
 
--- ---- one partition more
+grown_there : (ps qs : List Progress) → length ps ≡ length qs → (new_output_grown (all_new_output ps) (all_new_output qs) ≡ all_new_output (grown ps qs)) × (length (grown ps qs) ≡ length qs)
+grown_there [] [] same = (refl, refl)
+grown_there (p ∷ ps) (q ∷ qs) same =
+    let more = grown_there ps qs (omega (arith, same)) in
+    (ap (λ ns. one_grown (new_output_of p) (new_output_of q) ∷ ns) more.0, ap suc more.1)
+grown_there _ _ same = absurd (omega (arith, same))
 
-pub none-after : (bs : List Faults) → faults_grown bs [] ≡ []
-none-after [] = refl
-none-after (b ∷ bs) = refl
+led_there : (at : SliceState) (count : ℕ) (cs : List Checkpoint) → length at.partitions ≡ count → AreIntervalsOf count cs
+    → (limits_led at.limits cs ≡ (led at cs).limits) × (new_output_led (all_new_output at.partitions) cs ≡ all_new_output (led at cs).partitions)
+led_there at count [] number all = (refl, refl)
+led_there at count (Begins h ∷ cs) number all = absurd all.0
+led_there at count (GoesOn i ∷ cs) number all =
+    let there = grown_there at.partitions i.partitions (number ∙ sym all.0) in
+    let more = led_there (next at (GoesOn i)) count cs (there.1 ∙ all.0) all.1 in
+    (more.0, ap (λ (ns : List NewOutput). new_output_led ns cs) there.0 ∙ more.1)
 
-pub after-length : (bs : List Faults) (ns : List NewOutput) → length (faults_grown bs ns) ≡ length ns
-after-length [] ns = length-map ns faults_by
-after-length (b ∷ bs) [] = refl
-after-length (b ∷ bs) (n ∷ ns) = ap suc (after-length bs ns)
+first_new_output : (ns : List NewOutput) → new_output_grown (replicate (length ns) no_new_output) ns ≡ ns
+first_new_output [] = refl
+first_new_output (n ∷ ns) = ap (λ ms. n ∷ ms) (first_new_output ns)
 
-pub one-pushed : (bs : List Faults) (ns : List NewOutput) (n : NewOutput) → faults_grown bs (ns ++ n ∷ []) ≡ faults_grown bs ns ++ one_after (slice_get bs (length ns)) n ∷ []
-one-pushed [] [] n = refl
-one-pushed [] (m ∷ ns) n = ap (λ r. faults_by m ∷ r) (one-pushed [] ns n)
-one-pushed (b ∷ bs) [] n = ap (λ r. one_after (Some b) n ∷ r) (none-after bs)
-one-pushed (b ∷ bs) (m ∷ ns) n = ap (λ r. one_after (Some b) m ∷ r) (one-pushed bs ns n)
-
-pub held-copied : (o : Option (Bor PartitionFaults)) → option_map (λ f. faults_held f.now) o ≡ option_map faults_held (option_copied o)
-held-copied None = refl
-held-copied (Some f) = refl
+pub places_are_read : PlacesAreRead
+places_are_read h count [] all = (refl, λ some. absurd (some refl))
+places_are_read h count (Begins k ∷ cs) all = absurd all.0
+places_are_read h count (GoesOn i ∷ cs) all =
+    let number : count ≡ length (all_new_output i.partitions) = sym (length-map i.partitions new_output_of ∙ all.0) in
+    let more = led_there (next (next start (Begins h)) (GoesOn i)) count cs all.0 all.1 in (
+      more.0,
+      λ some. ap (λ (n : ℕ). new_output_led (new_output_grown (replicate n no_new_output) (all_new_output i.partitions)) cs) number
+          ∙ ap (λ (ns : List NewOutput). new_output_led ns cs) (first_new_output (all_new_output i.partitions)) ∙ more.1,
+    )
 
 -- ---- one interval more
 
@@ -37,37 +43,33 @@ grown-faults [] qs = refl
 grown-faults (p ∷ ps) [] = refl
 grown-faults (p ∷ ps) (q ∷ qs) = ap (λ r. one_after (Some (faults_by (new_output_of p))) (new_output_of q) ∷ r) (grown-faults ps qs)
 
--- ---- before the first interval
+-- ---- after checkpoints that were read
 
-pub holds-none : (held : List Faults) (all : List CheckpointBytes) → held ≡ [] → all ≡ [] → HoldsFaults held all
-holds-none held all none blank [] kept = none
-holds-none held all none blank (c ∷ cs) kept = absurd (subst (λ (l : List CheckpointBytes). AreStoredAs (c ∷ cs) l) blank kept)
+pub some-kept : (cs : List Checkpoint) (before : List CheckpointBytes) (last : CheckpointBytes) → AreStoredAs cs (before ++ last ∷ []) → cs ≢ []
+some-kept cs before last kept none = omega (arith, as-many IsStoredAs cs (before ++ last ∷ []) kept, ap length none, length-append before (last ∷ []))
 
-pub holds-header : (held : List Faults) (h : Header) (first : CheckpointBytes) (all : List CheckpointBytes) → held ≡ [] → all ≡ first ∷ [] → AreStoredAs (Begins h ∷ []) (first ∷ []) → HoldsFaults held all
-holds-header held h first all none alone begins cs kept =
-    let same = all_once (Begins h ∷ []) cs all (subst (λ (l : List CheckpointBytes). AreStoredAs (Begins h ∷ []) l) (sym alone) begins) kept in
-    none ∙ ap (λ (ds : List Checkpoint). map faults_by (all_new_output (slice_state ds).partitions)) same
+-- the header alone
+pub header-alone : {job : Job} {functions : Functions} {number : ℕ} {items : List (List ℕ)} {first : CheckpointBytes} (keeps : KeepsSlice job functions number items (first ∷ [])) (cs : List Checkpoint)
+    → AreStoredAs cs (first ∷ []) → Begins (begins_with_header job functions number items first [] keeps).header ∷ [] ≡ cs
+header-alone {first = first} keeps cs kept = let opened = begins_with_header _ _ _ _ first [] keeps in all_once (Begins opened.header ∷ []) cs (first ∷ []) (opened.header_kept, tt) kept
 
--- ---- after some intervals
+-- what is read of intervals is what the state has
+module _ {job : Job} {functions : Functions} {number : ℕ} {items : List (List ℕ)} {first : CheckpointBytes} {later : List CheckpointBytes} {began : Limits} {held : HeldSlice} (keeps : KeepsSlice job functions number items (first ∷ later))
+    (began-is : (h : Header) → IsStoredAs (Begins h) first → h.limits ≡ began) (has : (cs : List Checkpoint) → AreStoredAs cs later → AreIntervalsOf job.partitions cs → HasRead began job.partitions cs held)
+    (cs : List Checkpoint) (kept : AreStoredAs cs (first ∷ later)) where
+  abbrev opened : BeginsWithHeader job functions number items first later
+  opened = begins_with_header job functions number items first later keeps
 
--- what is read of them is what is held
-none-kept : (before : List CheckpointBytes) (last : CheckpointBytes) → AreStoredAs [] (before ++ last ∷ []) → ⊥
-none-kept [] last kept = kept
-none-kept (b ∷ before) last kept = kept
+  same : Begins opened.header ∷ opened.intervals ≡ cs
+  same = all_once (Begins opened.header ∷ opened.intervals) cs (first ∷ later) (opened.header_kept, opened.intervals_kept) kept
 
-from-intervals : (count : ℕ) (h : Header) (intervals cs : List Checkpoint) (first last : CheckpointBytes) (before : List CheckpointBytes) (limits : Limits) (held : HeldSlice)
-    → AreStoredAs (Begins h ∷ intervals) (first ∷ before ++ last ∷ []) → AreStoredAs cs (first ∷ before ++ last ∷ []) → AreIntervalsOf count intervals → HasRead limits count intervals held
-    → map new_output_in held.partitions.items ≡ all_new_output (slice_state cs).partitions
-from-intervals count h [] cs first last before limits held are kept of read = absurd (none-kept before last are.1)
-from-intervals count h (c ∷ more) cs first last before limits held are kept of read =
-    read.new_output ∙ (places_are_read h count (c ∷ more) of).1 (λ none. let no : ⊥ = cc in no)
-    ∙ ap (λ (ds : List Checkpoint). all_new_output (slice_state ds).partitions) (all_once (Begins h ∷ c ∷ more) cs (first ∷ before ++ last ∷ []) are kept)
+  pub limits-read : limits_in held.limits ≡ (slice_state cs).limits
+  limits-read =
+      (has opened.intervals opened.intervals_kept opened.are_intervals).limits ∙ ap (λ (l : Limits). limits_led l opened.intervals) (sym (began-is opened.header opened.header_kept))
+      ∙ (places_are_read opened.header job.partitions opened.intervals opened.are_intervals).0 ∙ ap (λ (ds : List Checkpoint). (slice_state ds).limits) same
 
-pub holds-read : (job : Job) (functions : Functions) (number : ℕ) (items : List (List ℕ)) (first : CheckpointBytes) (later before : List CheckpointBytes) (last : CheckpointBytes) → later ≡ before ++ last ∷ []
-    → (begins : BeginsWithHeader job functions number items first later) → (limits : Limits) (held : HeldSlice) → HasRead limits job.partitions begins.intervals held
-    → (faults : List Faults) → faults ≡ map faults_by (map new_output_in held.partitions.items) → HoldsFaults faults (first ∷ later)
-holds-read job functions number items first later before last is begins limits held read faults are cs kept =
-    let split = ap (λ (l : List CheckpointBytes). first ∷ l) is in
-    are ∙ ap (map faults_by)
-    (from-intervals job.partitions begins.header begins.intervals cs first last before limits held (subst (λ (l : List CheckpointBytes). AreStoredAs (Begins begins.header ∷ begins.intervals) l) split (begins.header_kept, begins.intervals_kept))
-    (subst (λ (l : List CheckpointBytes). AreStoredAs cs l) split kept) begins.are_intervals read)
+  pub output-read : (before : List CheckpointBytes) (last : CheckpointBytes) → later ≡ before ++ last ∷ [] → map new_output_in held.partitions.items ≡ all_new_output (slice_state cs).partitions
+  output-read before last last_is =
+      (has opened.intervals opened.intervals_kept opened.are_intervals).new_output
+      ∙ (places_are_read opened.header job.partitions opened.intervals opened.are_intervals).1 (some-kept opened.intervals before last (subst (AreStoredAs opened.intervals) last_is opened.intervals_kept))
+      ∙ ap (λ (ds : List Checkpoint). all_new_output (slice_state ds).partitions) same

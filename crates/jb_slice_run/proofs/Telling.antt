@@ -1,21 +1,17 @@
 -- Bytes keep one list of checkpoints at most.
-use Rattle.std.proofs.Common.{ℕ, ◌≡◌, List, [], ◌∷◌, ◌++◌, length, map, Result, Ok, refl, sym, ap, ap₂, subst, ◌∙◌}
-use Rattle.std.proofs.lemmas.List.{length-map}
+use Rattle.jb_slice_run.specs.{Rows.{rows_in}, SliceBytes.{AreStoredAs, IsHeaderStored, IsIntervalStored, IsStoredAs, lists_of}, Coding.{coded_number}, Laws.{EachIsStoredAsOne, FrontsAreStored, StoredAsOne, OneMoreIsStored}, Strings.{all_new_output, header_lists, interval_lists, new_output_of}}
+use Rattle.jb_slice_run.proofs.{Once.{head_of, header_once, limits_once, new_output_once, tail_of}, Codings.{one_to_one}}
+use Rattle.std.proofs.{Common.{◌≡◌, List, [], ◌∷◌, ◌++◌, length, Result, Ok, refl, sym, ap, ap₂, subst, ◌∙◌}, lemmas.List.{length-map}}
 use Rattle.jb_base.proofs.Pairwise.{pairwise-push}
 use Rattle.jb_slice_file.specs.CheckpointBytes.{CheckpointBytes}
-use Rattle.jb_slice_run.specs.SliceBytes.{AreStoredAs, IsHeaderStored, IsIntervalStored, IsStoredAs, lists_of}
-use Rattle.jb_slice_run.specs.{Coding.IsCodingOf, Coding.coded_number, Laws.EachIsStoredAsOne, Laws.FrontsAreStored, Laws.StoredAsOne, Laws.OneMoreIsStored, Strings.all_new_output, Strings.header_lists, Strings.interval_lists, Strings.new_output_of}
-use Rattle.jb_saved.specs.{SavedRows.SavedRows, declared.place.SavedPlace.SavedPlace}
-use Rattle.jb_slices.specs.Checkpoint.{Begins, Checkpoint, GoesOn, Header, Interval, Progress}
-use Rattle.jb_slices.specs.{Slice.IsSliceSoFar, SliceLaws.FrontsAreSoFar, SliceLaws.OneMoreFollows}
-use Rattle.jb_slice_run.proofs.Once.{head_of, header_once, limits_once, new_output_once, tail_of}
-use Rattle.jb_slice_run.proofs.Codings.{one_to_one}
+use Rattle.jb_saved.specs.{SavedRows.{SavedRows}, declared.place.SavedPlace.{SavedPlace}}
+use Rattle.jb_slices.specs.{Checkpoint.{Begins, Checkpoint, GoesOn, Header, Interval, Progress}, Slice.{IsSliceSoFar}, SliceLaws.{FrontsAreSoFar, OneMoreFollows}}
 
-ok_once : (x y : SavedRows) → ◌≡◌ {A = Result SavedRows SavedPlace} (Ok x) (Ok y) → x ≡ y
-ok_once x y e = cc
+pub ok_once : {x y : SavedRows} → ◌≡◌ {A = Result SavedRows SavedPlace} (Ok x) (Ok y) → x ≡ y
+ok_once e = cc
 
 -- partitions are their rows and their news
-progress_once : (ps qs : List Progress) → map (λ (p : Progress). p.row) ps ≡ map (λ (p : Progress). p.row) qs → all_new_output ps ≡ all_new_output qs → ps ≡ qs
+progress_once : (ps qs : List Progress) → rows_in ps ≡ rows_in qs → all_new_output ps ≡ all_new_output qs → ps ≡ qs
 progress_once [] [] rows new_output = refl
 progress_once (p ∷ ps) (q ∷ qs) rows new_output =
     let row : p.row ≡ q.row = head_of _ _ _ _ rows in
@@ -24,26 +20,14 @@ progress_once (p ∷ ps) (q ∷ qs) rows new_output =
     ap₂ ◌∷◌ one (progress_once ps qs (tail_of _ _ _ _ rows) (tail_of _ _ _ _ new_output))
 progress_once _ _ rows new_output = let none : ⊥ = cc in absurd none
 
-headers : (h k : Header) (kept : CheckpointBytes) → IsHeaderStored h kept → IsHeaderStored k kept → h ≡ k
-headers h k kept a b = header_once h k a.small b.small (one_to_one kept.results 10 (header_lists h) (header_lists k) a.lists b.lists)
-
-module _ (i j : Interval) (kept : CheckpointBytes) (a : IsIntervalStored i kept) (b : IsIntervalStored j kept) where
-  rows : map (λ (p : Progress). p.row) i.partitions ≡ map (λ (p : Progress). p.row) j.partitions
-  rows = sym a.rows ∙ ap (λ (s : SavedRows). s.rows) (ok_once a.held b.held (sym a.read ∙ b.read)) ∙ b.rows
-
-  lengths : length i.partitions ≡ length j.partitions
-  lengths = sym (length-map i.partitions (λ (p : Progress). p.row)) ∙ ap length rows ∙ length-map j.partitions (λ (p : Progress). p.row)
-
-  lists : interval_lists i.limits (all_new_output i.partitions) ≡ interval_lists j.limits (all_new_output j.partitions)
-  lists = one_to_one kept.results (lists_of (length j.partitions)) (interval_lists i.limits (all_new_output i.partitions)) (interval_lists j.limits (all_new_output j.partitions))
-      (subst (λ (n : ℕ). IsCodingOf kept.results (lists_of n) (interval_lists i.limits (all_new_output i.partitions))) lengths a.lists) b.lists
-
-  intervals : i ≡ j
-  intervals =
-      let limits : i.limits ≡ j.limits = limits_once i.limits j.limits a.small b.small (head_of _ _ _ _ lists) in
-      let new_output : all_new_output i.partitions ≡ all_new_output j.partitions = new_output_once (all_new_output i.partitions) (all_new_output j.partitions) a.new_output_small b.new_output_small (tail_of _ _ _ _ lists) in
-      let partitions : i.partitions ≡ j.partitions = progress_once i.partitions j.partitions rows new_output in
-      λ t. record { limits = limits t; partitions = partitions t }
+intervals : (i j : Interval) (kept : CheckpointBytes) → IsIntervalStored i kept → IsIntervalStored j kept → i ≡ j
+intervals i j kept a b =
+    let rows : rows_in i.partitions ≡ rows_in j.partitions = sym a.rows ∙ ap (λ (s : SavedRows). s.rows) (ok_once (sym a.read ∙ b.read)) ∙ b.rows in
+    let lengths : length i.partitions ≡ length j.partitions = sym (length-map i.partitions (λ (p : Progress). p.row)) ∙ ap length rows ∙ length-map j.partitions (λ (p : Progress). p.row) in
+    let lists = one_to_one kept.results (lists_of (length j.partitions)) (interval_lists i.limits (all_new_output i.partitions)) (interval_lists j.limits (all_new_output j.partitions)) (rw lengths at a.lists) b.lists in
+    let limits = limits_once i.limits j.limits a.small b.small (head_of _ _ _ _ lists) in
+    let partitions = progress_once i.partitions j.partitions rows (new_output_once (all_new_output i.partitions) (all_new_output j.partitions) a.new_output_small b.new_output_small (tail_of _ _ _ _ lists)) in
+    λ t. record { limits = limits t; partitions = partitions t }
 
 -- the first list of a header has one string, and that of an interval three
 apart : (h : Header) (i : Interval) (kept : CheckpointBytes) → IsHeaderStored h kept → IsIntervalStored i kept → ⊥
@@ -51,7 +35,7 @@ unfolding coded_number
 apart h i kept a b = let same = sym a.lists.coding ∙ b.lists.coding in cc
 
 pub each_once : EachIsStoredAsOne
-each_once (Begins h) (Begins k) kept a b = ap Begins (headers h k kept a b)
+each_once (Begins h) (Begins k) kept a b = ap Begins (header_once h k a.small b.small (one_to_one kept.results 10 (header_lists h) (header_lists k) a.lists b.lists))
 each_once (Begins h) (GoesOn j) kept a b = absurd (apart h j kept a b)
 each_once (GoesOn i) (Begins k) kept a b = absurd (apart k i kept b a)
 each_once (GoesOn i) (GoesOn j) kept a b = ap GoesOn (intervals i j kept a b)

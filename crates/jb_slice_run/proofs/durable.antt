@@ -1,3 +1,2 @@
-pub mod Resting
 pub mod Causing
 pub mod Telling

@@ -3,7 +3,6 @@ use Rattle.std.specs.Prelude.{ℕ, ◌≡◌, ◌≤◌, ◌<◌, ◌⊎◌, ◌
 use Rattle.sqlite_disk.specs.Disk.{MoreFaults}
 use Rattle.sqlite.specs.State.{State}
 use Rattle.jb_records.specs.declared.error.RecordsStepError.{RecordsStepError}
-use Rattle.jb_records.specs.declared.error.RecordsStepError.TheVariants as fault
 use Rattle.jb_records.specs.declared.step.RecordsStep.{RecordsStep}
 use Rattle.jb_records.specs.Causes.{Call, Explains as ExplainsStep, OfEach, RunInterval}
 use Rattle.jb_records.specs.Function.{steady}
@@ -127,11 +126,9 @@ pub data Phase : Type 1 where
   -- it adds one interval: to a run of which nothing is known, or after these checkpoints of the slice so far
   AnyInterval : Phase
   NextInterval : Job → Functions → (number : ℕ) → (items : List (List ℕ)) → List CheckpointBytes → Phase
-  -- it adds intervals to the slice so far, and appends each to the file
-  Appending : SliceInput → (old new : State) → Phase
   -- it collects how the slice ended, after its intervals ended in this way
   Ending : LoopEnd → Phase
-  -- it does all this for a slice so far
+  -- it does all this for a slice so far, and appends each interval to the file
   RunningSlice : SliceJob → SliceInput → (old new : State) → List CheckpointBytes → Phase
 
 -- WHY A CALL HAS NO ANSWER, error by error. A call has no other errors than those that are listed for what it does.
@@ -140,13 +137,11 @@ abbrev pub Explains : Phase → SliceError → Type 0
 Explains phase Memory = ⊤
 -- the file doesn't list its checkpoints, or doesn't take one more
 Explains (Resuming job f number items (OfFile old new) all) (Store e) = IsFileCause old new ⊥ e
-Explains (Appending w old new) (Store e) = IsFileCause old new (HasALongOne w) e
 Explains (RunningSlice job w old new all) (Store e) = IsFileCause old new (HasALongOne w) e
 -- the step can't start, or broke off
 Explains (Resuming job f number items source all) (Step why) = IsUnbegun job f items all why
 Explains AnyInterval (Step why) = ⊤
 Explains (NextInterval job functions number items all) (Step why) = ExplainsStep RunInterval why
-Explains (Appending w old new) (Step why) = ExplainsStep RunInterval why
 Explains (RunningSlice job w old new all) (Step why) = IsUnbegun job w.f w.items all why ⊎ ExplainsStep RunInterval why
 -- the stored header isn't our own; that of a slice so far can have another stamp, and no other difference
 Explains (Resuming job f number items source all) (OtherJob part) = IsRefusedBy (own_header job number items) (kept_stamps job) all (OtherJob part)
@@ -163,16 +158,13 @@ Explains (Resuming job f number items source all) Damaged = AreDamaged (job_in j
 Explains (Resuming job f number items source all) TooLong = IsHeaderLong (own_header job number items) items
 Explains AnyInterval TooLong = ⊤
 Explains (NextInterval job functions number items all) TooLong = HasNoBytes job functions number items all
-Explains (Appending w old new) TooLong = HasNoBytesSoFar w
 Explains (RunningSlice job w old new all) TooLong = IsHeaderLong (own_header job w.number w.items) w.items ⊎ HasNoBytesSoFar w
 -- there are no numbers for its items
 Explains AnyInterval NoNumbers = ⊤
 Explains (NextInterval job functions number items all) NoNumbers = AreTooMany job number (length items)
-Explains (Appending w old new) NoNumbers = AreTooMany w.job w.number (length w.items)
 Explains (RunningSlice job w old new all) NoNumbers = AreTooMany w.job w.number (length w.items)
 -- there are no numbers for its checkpoints
 Explains (Resuming job f number items (OfFile old new) all) TooMany = 2 ^ 32 - 1 < length all
-Explains (Appending w old new) TooMany = HasEachNumber w
 Explains (Ending loop_end) TooMany = loop_end ≡ Intervals
 Explains (RunningSlice job w old new all) TooMany = HasEachNumber w
 -- the listener stopped it: no contract says what a listener answers

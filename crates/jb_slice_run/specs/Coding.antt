@@ -41,19 +41,20 @@ pub record IsCodingOf (bytes : List ℕ) (count : ℕ) (lists : List (List (List
 
 -- ---- while bytes are read
 
--- `count` strings were read; `rest` is left
-pub record AreStringsRead (strings : List (List ℕ)) (bytes rest : List ℕ) (count : ℕ) : Type 0 where
-  pub number : length strings ≡ count
-  pub short : AllByRecursion (λ s. IsShort s) strings
-  pub left : bytes ≡ coded_strings strings ++ rest
+-- `count` values with such codes were read; `rest` is left
+pub record AreRead {A : Type 0} (code : A → List ℕ) (Fits : A → Type 0) (all : List A) (bytes rest : List ℕ) (count : ℕ) : Type 0 where
+  pub number : length all ≡ count
+  pub fit : AllByRecursion Fits all
+  pub left : bytes ≡ flat_map code all ++ rest
+
+-- these are strings, or lists
+abbrev pub AreStringsRead : (strings : List (List ℕ)) → (bytes rest : List ℕ) → (count : ℕ) → Type 0
+AreStringsRead strings bytes rest count = AreRead coded_string (λ s. IsShort s) strings bytes rest count
+
+abbrev pub AreListsRead : (lists : List (List (List ℕ))) → (bytes rest : List ℕ) → (count : ℕ) → Type 0
+AreListsRead lists bytes rest count = AreRead coded_list (λ list. IsCodable list) lists bytes rest count
 
 -- a list was read
 pub record IsListRead (list : List (List ℕ)) (bytes rest : List ℕ) : Type 0 where
   pub codable : IsCodable list
   pub left : bytes ≡ coded_list list ++ rest
-
--- `count` lists were read
-pub record AreListsRead (lists : List (List (List ℕ))) (bytes rest : List ℕ) (count : ℕ) : Type 0 where
-  pub number : length lists ≡ count
-  pub codable : AreCodable lists
-  pub left : bytes ≡ coded lists ++ rest

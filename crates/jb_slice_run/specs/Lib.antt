@@ -18,4 +18,5 @@ pub mod Work
 pub mod NewOutput
 pub mod Causes
 pub mod Named
+pub mod Resuming
 pub mod durable

@@ -1,5 +1,5 @@
 -- What is new of the partitions of a slice in an interval.
-use Rattle.std.specs.Prelude.{ℕ, ◌≡◌, ◌≤◌, List, length, slice_get, Option, None, Some, option_map, MatchOption, ⊤}
+use Rattle.std.specs.Prelude.{ℕ, ◌≡◌, ◌≤◌, List, [], ◌∷◌, drop, length, slice_get, Option, None, Some, option_map, MatchOption, ⊤}
 use Rattle.jb_base.specs.Rules.{RulesRecord}
 use Rattle.jb_ready.specs.declared.notes.Note.{Note}
 use Rattle.jb_rules.specs.Sound.{IsPlaced}
@@ -49,9 +49,11 @@ pub record IsNewOutputOf (f : Function) (rules : RulesRecord) (first : ℕ) (rec
 
 -- the same for each partition, since the rows `before`, or since its start if these are empty
 abbrev pub CanAllGrow : Function → RulesRecord → (records : List (List ℕ)) → (before rows : List Row) → Type 0
-CanAllGrow f rules records before rows = (i : ℕ) (row : Row) → slice_get rows i ≡ Some row → CanGrow f rules records (slice_get before i) row
+CanAllGrow f rules records before [] = ⊤
+CanAllGrow f rules records before (row ∷ rows) = CanGrow f rules records (slice_get before 0) row × CanAllGrow f rules records (drop 1 before) rows
 
-pub record AreNewOutputsOf (f : Function) (rules : RulesRecord) (first : ℕ) (records : List (List ℕ)) (before rows : List Row) (results : List (List (List ℕ))) (new_output : List NewOutput) : Type 0 where
-  pub number : length new_output ≡ length rows
-  pub each : (i : ℕ) (row : Row) (one : List (List ℕ)) (new : NewOutput) → slice_get rows i ≡ Some row → slice_get results i ≡ Some one → slice_get new_output i ≡ Some new
-      → IsNewOutputOf f rules first records (slice_get before i) row one new
+abbrev pub AreNewOutputsOf : Function → RulesRecord → (first : ℕ) → (records : List (List ℕ)) → (before rows : List Row) → (results : List (List (List ℕ))) → List NewOutput → Type 0
+AreNewOutputsOf f rules first records before [] [] [] = ⊤
+AreNewOutputsOf f rules first records before (row ∷ rows) (one ∷ results) (new ∷ new_output) =
+    IsNewOutputOf f rules first records (slice_get before 0) row one new × AreNewOutputsOf f rules first records (drop 1 before) rows results new_output
+AreNewOutputsOf f rules first records before _ _ _ = ⊥

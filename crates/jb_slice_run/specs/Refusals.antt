@@ -1,5 +1,5 @@
 -- Why a slice's bytes are refused.
-use Rattle.std.specs.Prelude.{ℕ, ◌≡◌, ◌≢◌, ◌⊎◌, List, ◌∷◌, Contains, ⊤}
+use Rattle.std.specs.Prelude.{ℕ, ◌≡◌, ◌≢◌, ◌⊎◌, List, [], ◌∷◌, Contains, ⊤}
 use Rattle.jb_slice_file.specs.declared.error.StoreError.{StoreError}
 use Rattle.jb_slice_file.specs.declared.error.StoreError.TheVariants as store
 use Rattle.jb_slices.specs.Checkpoint.{Header}
@@ -9,6 +9,9 @@ use Rattle.jb_slices.specs.Refusals.{HasOtherStamp, IsOtherJob, IsOtherSlice}
 use Rattle.jb_slice_run.specs.declared.error.IdentityPart.{IdentityPart}
 use Rattle.jb_slice_run.specs.declared.error.IdentityPart.TheVariants.{Name, SliceLength, Partitions, ItemCount, Classes}
 use Rattle.jb_slice_run.specs.declared.error.SliceError.{SliceError}
+use Rattle.jb_slice_run.specs.declared.lists.HeaderPart.{HeaderPart}
+use Rattle.jb_slice_run.specs.declared.lists.HeaderPart.TheVariants.{Digest, Identity, Items, Number}
+use Rattle.jb_slice_run.specs.Strings.{classes_list, number_string}
 use Rattle.jb_slice_run.specs.declared.error.SliceError.TheVariants.{LoweredLimit, Damaged, OtherJob, OtherSlice, OtherItems, OtherStamp, Store, TooMany}
 
 abbrev pub part_of : IdentityPart → job.IdentityPart
@@ -26,6 +29,24 @@ HaveThoseBefore Partitions own other = (own.name ≡ other.name) × (own.slice_l
 HaveThoseBefore ItemCount own other = (own.name ≡ other.name) × (own.slice_length ≡ other.slice_length) × (own.partitions ≡ other.partitions)
 HaveThoseBefore Classes own other =
     (own.name ≡ other.name) × (own.slice_length ≡ other.slice_length) × (own.partitions ≡ other.partitions) × (own.item_count ≡ other.item_count)
+
+-- two headers have this part in common: a part of the identity, the slice's number, or the digest or the number of its items
+abbrev pub HaveSame : HeaderPart → (own held : Header) → Type 0
+HaveSame (Identity part) own held = HaveInCommon (part_of part) own.job held.job
+HaveSame Number own held = own.number ≡ held.number
+HaveSame Digest own held = own.digest ≡ held.digest
+HaveSame Items own held = own.items ≡ held.items
+
+-- the list that a stored header has of it
+abbrev pub list_of : HeaderPart → Header → List (List ℕ)
+list_of (Identity Name) h = h.job.name ∷ []
+list_of (Identity SliceLength) h = number_string h.job.slice_length ∷ []
+list_of (Identity Partitions) h = number_string h.job.partitions ∷ []
+list_of (Identity ItemCount) h = number_string h.job.item_count ∷ []
+list_of (Identity Classes) h = classes_list h.job.classes
+list_of Number h = number_string h.number ∷ []
+list_of Digest h = h.digest ∷ []
+list_of Items h = number_string h.items ∷ []
 
 -- it is of other items: it has another digest, or another number of them
 abbrev pub HasOthers : (own held : Header) → Type 0

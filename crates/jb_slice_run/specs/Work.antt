@@ -16,7 +16,8 @@ use Rattle.jb_slices.specs.Checkpoint.{Begins, Checkpoint, header_of}
 use Rattle.jb_slices.specs.Function.{Function}
 use Rattle.jb_slices.specs.Job.{AreRaised, Job, Limits, rules_of}
 use Rattle.jb_slices.specs.Slice.{Functions, IsStateSoFar, IsSliceSoFar, slice_state}
-use Rattle.jb_slice_run.specs.SliceBytes.{AreStoredAs, IsStoredAs, KeepsSlice}
+use Rattle.jb_slice_run.specs.Named.{Faults, HoldsFaults}
+use Rattle.jb_slice_run.specs.SliceBytes.{AreStoredAs, IsStoredAs}
 use Rattle.jb_slice_run.specs.Rows.{results_in, rows_in}
 use Rattle.jb_slice_run.specs.declared.resumable_run.Stage.{Stage}
 use Rattle.jb_slice_run.specs.declared.resumable_run.Stage.TheVariants.{NoCheckpoint, HeaderOnly, SomeIntervals}
@@ -90,10 +91,11 @@ SliceStandsAt job functions f limits number items SomeIntervals s rows all = Has
 abbrev pub GoesOnFrom : Job → Functions → Function → Limits → (number : ℕ) → (items : List (List ℕ)) → RunState → (before : List Row) → List CheckpointBytes → Type 0
 GoesOnFrom job functions f limits number items s before all = HasHeaderOnly job functions f limits number items s all × (before ≡ []) ⊎ HasIntervals job functions f limits number items s before all
 
--- the run has come to these rows, with one checkpoint more
-abbrev pub HasGoneOnTo : Job → Functions → Function → Limits → (number : ℕ) → (items : List (List ℕ)) → List CheckpointBytes → RunState → List Row → (next : CheckpointBytes) → Type 0
-HasGoneOnTo job functions f limits number items all t rows next =
-    KeepsSlice job functions number items (all ++ next ∷ []) × HasIntervals job functions f limits number items t rows (all ++ next ∷ [])
+-- the run has come to these rows, with one checkpoint more, which has these limits; the faults that were held are these now
+pub record HasGoneOnTo (job : Job) (functions : Functions) (f : Function) (limits : Limits) (number : ℕ) (items : List (List ℕ)) (all : List CheckpointBytes) (held : List Faults) (t : RunState) (rows : List Row) (now : List Faults) (next : CheckpointBytes) : Type 0 where
+  pub at : HasIntervals job functions f limits number items t rows (all ++ next ∷ [])
+  pub by : GoesBy limits (all ++ next ∷ [])
+  pub holds : HoldsFaults held all → HoldsFaults now (all ++ next ∷ [])
 
 -- ---- WHAT ITS ROWS SAY
 

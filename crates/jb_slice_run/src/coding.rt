@@ -1,6 +1,6 @@
 //! Lists of strings as bytes.
 
-ghost use Rattle.std.specs.Prelude.{◌≡◌, ◌≤◌, ◌<◌, ◌^◌, ◌++◌, ◌⊎◌, length, IfErr, IfOk, OnOk};
+ghost use Rattle.std.specs.Prelude.{◌≡◌, ◌≤◌, ◌<◌, ◌^◌, ◌++◌, ◌⊎◌, [], length, get_or, IfErr, IfOk, OnOk};
 ghost use Rattle.std.specs.List.{AllByRecursion};
 ghost use Rattle.jb_slice_run.specs.Coding.{AreCodable, IsCodable, IsShort, coded, coded_list, coded_number, coded_string, coded_strings};
 ghost use Rattle.jb_slice_run.specs.declared.error.SliceError.TheVariants.{Memory, TooLong};
@@ -10,6 +10,7 @@ use jb_base::PackedList;
 use std::alloc::Global;
 
 /// Writes a number that is below 2^32.
+#[tactic(auto, unfolding(crate::specs::Coding::coded_number))]
 fn write_number(out: &mut Vec<u8>, number: usize) -> Result<(), SliceError>
     ensures coded { OnOk result (out.new.items ≡ out.old.items ++ coded_number number) }
     ensures fits { OnOk result (number < 2 ^ 32) }
@@ -23,7 +24,7 @@ fn write_number(out: &mut Vec<u8>, number: usize) -> Result<(), SliceError>
 }
 
 /// Writes a string.
-pub(crate) fn write_string(out: &mut Vec<u8>, string: &[u8]) -> Result<(), SliceError>
+fn write_string(out: &mut Vec<u8>, string: &[u8]) -> Result<(), SliceError>
     ensures coded { OnOk result (out.new.items ≡ out.old.items ++ coded_string string.now) }
     ensures fits { OnOk result (IsShort string.now) }
     ensures why { IfErr result (λ e. (e ≡ Memory) ⊎ (e ≡ TooLong) × (2 ^ 32 ≤ length string.now)) }
@@ -33,6 +34,20 @@ pub(crate) fn write_string(out: &mut Vec<u8>, string: &[u8]) -> Result<(), Slice
     Ok(())
 }
 
+/// Writes the string of a list at this index.
+pub(crate) fn write_item(
+    out: &mut Vec<u8>,
+    list: &PackedList,
+    index: usize,
+) -> Result<(), SliceError>
+    requires { index < length list.now }
+    ensures coded { OnOk result (out.new.items ≡ out.old.items ++ coded_string (get_or list.now index [])) }
+    ensures fits { OnOk result (IsShort (get_or list.now index [])) }
+    ensures why { IfErr result (λ e. (e ≡ Memory) ⊎ (e ≡ TooLong) × (AllByRecursion (λ s. IsShort s) list.now → ⊥)) }
+{
+    write_string(out, list.at(index))
+}
+
 /// Writes the strings of a list.
 fn write_strings(out: &mut Vec<u8>, list: &PackedList) -> Result<(), SliceError>
     ensures coded { OnOk result (out.new.items ≡ out.old.items ++ coded_strings list.now) }
@@ -40,7 +55,7 @@ fn write_strings(out: &mut Vec<u8>, list: &PackedList) -> Result<(), SliceError>
     ensures why { IfErr result (λ e. (e ≡ Memory) ⊎ (e ≡ TooLong) × (AllByRecursion (λ s. IsShort s) list.now → ⊥)) }
 {
     for index in 0..list.len() {
-        write_string(out, list.at(index))?;
+        write_item(out, list, index)?;
     }
     Ok(())
 }

@@ -10,7 +10,7 @@ use std::alloc::Global;
 
 /// The number at the front, and the bytes after it.
 fn read_number(bytes: &[u8]) -> Option<(u32, &[u8])>
-    ensures { MatchOption result (length bytes.now < 4) (λ r. (bytes.now ≡ coded_number r.0 ++ r.1.now) × (r.0 < 2 ^ 32)) }
+    ensures { MatchOption result ((n : ℕ) (rest : List ℕ) → bytes.now ≡ coded_number n ++ rest → ⊥) (λ r. (bytes.now ≡ coded_number r.0 ++ r.1.now) × (r.0 < 2 ^ 32)) }
 {
     let (front, rest) = bytes.split_first_chunk::<4>()?;
     Some((u32::from_le_bytes(*front), rest))
@@ -18,8 +18,7 @@ fn read_number(bytes: &[u8]) -> Option<(u32, &[u8])>
 
 /// The string at the front, and the bytes after it.
 fn read_string(bytes: &[u8]) -> Option<(&[u8], &[u8])>
-    ensures read { IfSome result (λ r. (bytes.now ≡ coded_string r.0.now ++ r.1.now) × IsShort r.0.now) }
-    ensures none { result ≡ None → (s rest : _) → IsShort s → bytes.now ≡ coded_string s ++ rest → ⊥ }
+    ensures { MatchOption result ((s rest : List ℕ) → IsShort s → bytes.now ≡ coded_string s ++ rest → ⊥) (λ r. (bytes.now ≡ coded_string r.0.now ++ r.1.now) × IsShort r.0.now) }
 {
     let (length, rest) = read_number(bytes)?;
     if rest.len() < length as usize {

@@ -6,7 +6,7 @@ ghost use Rattle.jb_slices.specs.Checkpoint.{digest_of};
 ghost use Rattle.jb_slice_run.specs.Work.{AreItemsShort};
 ghost use Rattle.jb_slice_run.specs.declared.error.SliceError.TheVariants.{Memory, TooLong};
 
-use crate::coding::write_string;
+use crate::coding::write_item;
 use crate::error::SliceError;
 use jb_base::PackedList;
 use sha2::{Digest, Sha256};
@@ -36,7 +36,7 @@ pub(crate) fn digest_of(alloc: Global, items: &PackedList) -> Result<[u8; 32], S
     let mut hasher = Sha256::new();
     let mut piece = Vec::with_capacity(alloc, 2 * PIECE)?;
     for index in 0..items.len() {
-        write_string(&mut piece, items.at(index))?;
+        write_item(&mut piece, items, index)?;
         hand_on(&mut hasher, &mut piece);
     }
     hasher.update(piece.as_slice());

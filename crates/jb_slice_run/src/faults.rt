@@ -1,6 +1,6 @@
 //! The faults of a partition's items.
 
-ghost use Rattle.std.specs.Prelude.{◌≡◌, ◌≤◌, ◌<◌, ◌+◌, ◌^◌, ◌++◌, length, map, option_copied, option_map, option_to_list, slice_get, IfOk, MatchOption, None, OnOk};
+ghost use Rattle.std.specs.Prelude.{◌≡◌, ◌≤◌, ◌<◌, ◌+◌, ◌^◌, ◌++◌, length, map, option_map, option_to_list, IfOk, MatchOption, None, OnOk};
 ghost use Rattle.jb_base.specs.Rules.{RulesRecord};
 ghost use Rattle.jb_records.specs.Artifacts.{record_of};
 ghost use Rattle.jb_records.specs.Following.{FollowsRules};
@@ -12,6 +12,7 @@ ghost use Rattle.jb_slice_run.specs.NewOutput.{AreNewOutputsOf, CanAllGrow, CanG
 ghost use Rattle.jb_slice_run.specs.Rows.{fault_at, faults_at};
 
 use crate::fault::Fault;
+use crate::first::first_and_others;
 use crate::partition_output::PartitionOutput;
 use jb_artifacts::record_of;
 use jb_base::{ClassId, PackedList, Rules};
@@ -121,12 +122,12 @@ fn new_skips<F: RowFunction>(
 }
 
 /// A record's fault by the number of its item in the job. `None` if there is no such record.
-fn fault_of(note: Option<Note>, first: u64, items: usize) -> Option<Fault>
-    requires numbers { first + items < 2 ^ 64 }
-    ensures { MatchOption note (option_map fault_in result ≡ None) (λ n. n.number < items → option_map fault_in result ≡ option_map (fault_at first) note) }
+fn fault_of(note: Option<Note>, first: u64, items: &PackedList) -> Option<Fault>
+    requires numbers { first + length items.now < 2 ^ 64 }
+    ensures { MatchOption note (option_map fault_in result ≡ None) (λ n. n.number < length items.now → option_map fault_in result ≡ option_map (fault_at first) note) }
 {
     match note {
-        Some(note) if note.number < items as u64 => Some(Fault {
+        Some(note) if note.number < items.len() as u64 => Some(Fault {
             number: first + note.number,
             class: note.class,
         }),
@@ -152,7 +153,7 @@ fn stop_in<F: RowFunction>(
     }
     rules_are_kept();
     let note = stop_of(alloc, function, rules, items, row)?;
-    Ok(fault_of(note, first, items.len()))
+    Ok(fault_of(note, first, items))
 }
 
 /// What is new of a partition since `before`, or since its start if there is no `before`. It is these results, the faults that it skipped since
@@ -180,13 +181,6 @@ pub(crate) fn new_output_of<F: RowFunction>(
     })
 }
 
-/// The row with this index, if it exists. The first index is 0.
-fn row_at(rows: &[Row], index: usize) -> Option<&Row>
-    ensures { option_copied result ≡ slice_get rows.now index }
-{
-    rows.get(index)
-}
-
 /// What is new of each partition since the rows `before`, or since its start if these are empty.
 pub(crate) fn all_new_output<F: RowFunction>(
     alloc: Global,
@@ -203,14 +197,17 @@ pub(crate) fn all_new_output<F: RowFunction>(
         → IfOk result (λ new_output. AreNewOutputsOf (F.answer function.now) rules.now first items.now before.now rows.now results.items (map new_output_in new_output.items)) }
 {
     let mut all = Vec::new(alloc);
-    let mut index = 0;
+    let mut before = before;
+    let mut rows = rows;
     'results: for one in results {
-        let earlier = row_at(before, index);
-        let Some(row) = row_at(rows, index) else {
+        let (earlier, before_others) = first_and_others(before);
+        let (first_row, others) = first_and_others(rows);
+        let Some(row) = first_row else {
             return Ok(all);
         };
         all.push(new_output_of(alloc, function, rules, items, first, earlier, row, one)?)?;
-        index += 1;
+        before = before_others;
+        rows = others;
     }
     Ok(all)
 }

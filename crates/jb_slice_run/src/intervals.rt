@@ -50,6 +50,20 @@ fn grow_all(partitions: &mut [PartitionOutput], lists: &[PackedList]) -> Result<
     Ok(())
 }
 
+/// The lists of an interval of this many partitions.
+fn lists_of_interval(
+    alloc: Global,
+    checkpoint: &Checkpoint,
+    count: u32,
+) -> Result<Vec<PackedList>, SliceError>
+    ensures read { (i : Interval) → IsIntervalStored i (checkpoint_bytes checkpoint.now) → length i.partitions ≡ count → IfOk result (λ lists. lists.items ≡ interval_lists i.limits (all_new_output i.partitions)) }
+    ensures number { IfOk result (λ lists. length lists.items ≡ lists_of count) }
+    ensures why { IfErr result (λ e. (e ≡ Memory) ⊎ (e ≡ Damaged) × ((i : Interval) → IsIntervalStored i (checkpoint_bytes checkpoint.now) → length i.partitions ≡ count → ⊥)) }
+{
+    let lists = read_lists(alloc, &checkpoint.results, 1 + 3 * count as usize)?;
+    Ok(lists)
+}
+
 /// Adds what an interval has to what those before it have, and returns its limits.
 fn read_interval(
     alloc: Global,
@@ -63,7 +77,7 @@ fn read_interval(
     ensures number { OnOk result (length partitions.new ≡ count) }
     ensures why { IfErr result (λ e. (e ≡ Memory) ⊎ (e ≡ Damaged) × ((i : Interval) → IsIntervalStored i (checkpoint_bytes checkpoint.now) → length i.partitions ≡ count → ⊥)) }
 {
-    let lists = read_lists(alloc, &checkpoint.results, 1 + 3 * count as usize)?;
+    let lists = lists_of_interval(alloc, checkpoint, count)?;
     let limits = read_limits(&lists[0])?;
     grow_all(partitions, &lists)?;
     Ok(limits)

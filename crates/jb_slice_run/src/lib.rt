@@ -6,7 +6,7 @@
 //! - `lists`: a header that was read, and why it is refused. `intervals`: the intervals after it.
 //! - `job`, `job_parts`: what a run of a slice needs of its job. `digest`: that of its items. `resuming`: a slice's run after its checkpoints.
 //!   `resumable_run`: where it is, and one interval more, with the `faults` that are new. `pace`: how many rounds an interval takes.
-//! - `named`: the faults that a slice's checkpoints name, as they come.
+//! - `named`: the faults that a slice's checkpoints name, as they come. `first`: the first of a list, and the others.
 //! - `error`: why a slice has no end, isn't resumed, or has no next checkpoint. `laws`: what follows from the form.
 //! - `row_laws`: the rows of a slice's step as progresses of its partitions.
 //! - `durable`: a slice's run with its checkpoints in a file.
@@ -19,6 +19,7 @@ mod durable;
 mod error;
 mod fault;
 mod faults;
+mod first;
 mod header;
 mod intervals;
 mod job;

@@ -1,13 +1,13 @@
 //! A header that was read, and why it is refused.
 
-ghost use Rattle.std.specs.Prelude.{ℕ, List, ◌≡◌, ◌≢◌, ◌⊎◌, ◌∷◌, [], length, map, IfErr, IfOk, MatchOption, MatchResult, OnOk, Contains};
+ghost use Rattle.std.specs.Prelude.{ℕ, List, ◌≡◌, ◌≢◌, ◌<◌, ◌⊎◌, ◌∷◌, [], false, get_or, length, map, IfErr, IsTrue, IfOk, MatchOption, MatchResult, OnOk, Contains};
 ghost use Rattle.std.specs.Bool.{MatchBool};
 ghost use Rattle.jb_slice_file.specs.CheckpointBytes.{checkpoint_bytes};
 ghost use Rattle.jb_slices.specs.Checkpoint.{Begins, Header};
 ghost use Rattle.jb_slices.specs.Job.{AreRaised, HaveInCommon, IsRaised};
 ghost use Rattle.jb_slice_run.specs.Held.{header_in, limits_in};
 ghost use Rattle.jb_slice_run.specs.SliceBytes.{IsStoredAs};
-ghost use Rattle.jb_slice_run.specs.Refusals.{HaveThoseBefore, IsHeaderCause, IsHeaderRefusal, IsOwn, part_of};
+ghost use Rattle.jb_slice_run.specs.Refusals.{HaveSame, HaveThoseBefore, IsHeaderCause, IsHeaderRefusal, IsOwn, list_of, part_of};
 ghost use Rattle.jb_slice_run.specs.Strings.{AreLimitsSmall, IsHeaderSmall, header_lists, limits_list};
 ghost use Rattle.jb_slice_run.specs.declared.error.SliceError.TheVariants.{Damaged, LoweredLimit, Memory};
 
@@ -78,22 +78,55 @@ fn has_stamp(own: &PackedList, held: &PackedList, stamps: &[&str]) -> bool
     }
 }
 
+/// A part of a header that a slice has in common with its job, number and items.
+#[derive(Clone, Copy)]
+enum HeaderPart {
+    Identity(IdentityPart),
+    Number,
+    Digest,
+    Items,
+}
+
+/// The list of a header that has this part.
+fn place_of(part: HeaderPart) -> usize
+    ensures within { result < 10 }
+    ensures at { (h : Header) (d : List (List ℕ)) → get_or (header_lists h) result d ≡ list_of part h }
+{
+    match part {
+        HeaderPart::Identity(IdentityPart::Name) => 1,
+        HeaderPart::Identity(IdentityPart::SliceLength) => 2,
+        HeaderPart::Identity(IdentityPart::Partitions) => 3,
+        HeaderPart::Identity(IdentityPart::ItemCount) => 4,
+        HeaderPart::Identity(IdentityPart::Classes) => 5,
+        HeaderPart::Number => 8,
+        HeaderPart::Digest => 0,
+        HeaderPart::Items => 9,
+    }
+}
+
+/// Whether two headers have this part in common.
+fn has_same(own: &HeaderLists, held: &HeaderLists, part: HeaderPart) -> bool
+    ensures same { IsTrue result → (o h : Header) → own.now ≡ header_lists o → held.now ≡ header_lists h → IsHeaderSmall o → IsHeaderSmall h → HaveSame part o h }
+    ensures other { result ≡ false → (o h : Header) → own.now ≡ header_lists o → held.now ≡ header_lists h → HaveSame part o h → ⊥ }
+{
+    let place = place_of(part);
+    is_same(&own.lists[place], &held.lists[place])
+}
+
 /// The first part of the identity in which the jobs of two headers differ.
-fn other_part(own: &[PackedList], held: &[PackedList]) -> Option<IdentityPart>
-    requires own { length own.now ≡ 10 }
-    requires held { length held.now ≡ 10 }
+fn other_part(own: &HeaderLists, held: &HeaderLists) -> Option<IdentityPart>
     ensures { (o h : Header) → own.now ≡ header_lists o → held.now ≡ header_lists h → IsHeaderSmall o → IsHeaderSmall h
         → MatchOption result (o.job ≡ h.job) (λ part. HaveThoseBefore part o.job h.job × (HaveInCommon (part_of part) o.job h.job → ⊥)) }
 {
-    if !is_same(&own[1], &held[1]) {
+    if !has_same(own, held, HeaderPart::Identity(IdentityPart::Name)) {
         Some(IdentityPart::Name)
-    } else if !is_same(&own[2], &held[2]) {
+    } else if !has_same(own, held, HeaderPart::Identity(IdentityPart::SliceLength)) {
         Some(IdentityPart::SliceLength)
-    } else if !is_same(&own[3], &held[3]) {
+    } else if !has_same(own, held, HeaderPart::Identity(IdentityPart::Partitions)) {
         Some(IdentityPart::Partitions)
-    } else if !is_same(&own[4], &held[4]) {
+    } else if !has_same(own, held, HeaderPart::Identity(IdentityPart::ItemCount)) {
         Some(IdentityPart::ItemCount)
-    } else if !is_same(&own[5], &held[5]) {
+    } else if !has_same(own, held, HeaderPart::Identity(IdentityPart::Classes)) {
         Some(IdentityPart::Classes)
     } else {
         None
@@ -142,21 +175,19 @@ impl HeaderLists {
         ensures why { (h o : Header) → self.now ≡ header_lists h → own.now ≡ header_lists o → IsHeaderSmall h → IsHeaderSmall o → IfErr result (IsHeaderCause o (map (λ stamp. stamp.now) stamps.now) h) }
         ensures kind { IfErr result IsHeaderRefusal }
     {
-        let own = own.lists.as_slice();
-        let held = self.lists.as_slice();
-        if let Some(part) = other_part(own, held) {
+        if let Some(part) = other_part(own, self) {
             return Err(SliceError::OtherJob(part));
         }
-        if !is_same(&own[8], &held[8]) {
+        if !has_same(own, self, HeaderPart::Number) {
             return Err(SliceError::OtherSlice);
         }
-        if !is_same(&own[0], &held[0]) {
+        if !has_same(own, self, HeaderPart::Digest) {
             return Err(SliceError::OtherItems);
         }
-        if !is_same(&own[9], &held[9]) {
+        if !has_same(own, self, HeaderPart::Items) {
             return Err(SliceError::OtherItems);
         }
-        if !has_stamp(&own[6], &held[6], stamps) {
+        if !has_stamp(&own.lists[6], &self.lists[6], stamps) {
             return Err(SliceError::OtherStamp);
         }
         Ok(())

@@ -1,6 +1,6 @@
 //! Members of a JSON object: numbers, sets of classes and limits.
 
-ghost use Rattle.std.specs.Prelude.{◌≡◌, ◌++◌, map, decimal, OnOk};
+ghost use Rattle.std.specs.Prelude.{◌≡◌, ◌<◌, ◌/◌, ◌%◌, ◌^◌, ◌==◌, ◌++◌, ◌∷◌, [], if◌then◌else◌, map, decimal, OnOk};
 ghost use Rattle.json.specs.Token.{number};
 ghost use Rattle.jb_job.specs.JobTree.{number_tree};
 ghost use Rattle.jb_saved.specs.SavedTree.{tokens_of};
@@ -9,15 +9,26 @@ ghost use Rattle.jb_slice_run.specs.Members.{classes_in, classes_tree, limit_tre
 use json::Writer;
 use std::alloc::AllocError;
 
+/// Writes the number of a class if it is in a set.
+fn write_member(out: &mut Writer, set: u64, class: u64) -> Result<(), AllocError>
+    requires { class < 64 }
+    ensures class { OnOk result (out.new.tokens ≡ out.old.tokens ++ map (λ class. number (decimal class)) (if (set / 2 ^ class) % 2 == 1 then class ∷ [] else [])) }
+    ensures before { out.new.before ≡ out.old.before }
+{
+    if (set >> class) % 2 == 1 {
+        out.u64(class)?;
+    }
+    Ok(())
+}
+
 /// Writes the numbers of the classes in a set.
+#[tactic(auto, using(std::proofs::lemmas::Grind::common_steps, crate::proofs::Grown::none_below, crate::proofs::Grown::one_below))]
 fn write_members(out: &mut Writer, set: u64) -> Result<(), AllocError>
     ensures classes { OnOk result (out.new.tokens ≡ out.old.tokens ++ map (λ class. number (decimal class)) (classes_in set)) }
     ensures before { out.new.before ≡ out.old.before }
 {
     for class in 0..64 {
-        if (set >> class) % 2 == 1 {
-            out.u64(class)?;
-        }
+        write_member(out, set, class)?;
     }
     Ok(())
 }
@@ -29,7 +40,8 @@ fn write_classes(out: &mut Writer, set: u64) -> Result<(), AllocError>
 {
     out.begin_array()?;
     write_members(out, set)?;
-    out.end_array()
+    out.end_array()?;
+    Ok(())
 }
 
 /// Writes a limit, or null for no limit.

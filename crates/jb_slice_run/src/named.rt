@@ -1,6 +1,6 @@
 //! The faults that a slice's checkpoints name.
 
-ghost use Rattle.std.specs.Prelude.{ℕ, List, ◌≡◌, ◌<◌, ◌^◌, ◌++◌, [], length, map, option_copied, option_map, slice_get, IfOk, OnOk};
+ghost use Rattle.std.specs.Prelude.{ℕ, List, ◌≡◌, ◌<◌, ◌^◌, ◌++◌, ◌∷◌, [], length, map, option_copied, option_map, IfOk, OnOk};
 ghost use Rattle.jb_records.specs.Intervals.{RunState};
 ghost use Rattle.jb_rules.specs.States.{is_failed};
 ghost use Rattle.jb_slice_file.specs.CheckpointBytes.{CheckpointBytes};
@@ -14,6 +14,7 @@ ghost use Rattle.jb_slice_run.specs.Named.{AreNamed, HoldsFaults, failure_in, fa
 ghost use Rattle.jb_slice_run.specs.Work.{HasIntervals};
 
 use crate::fault::{Fault, PartitionFaults};
+use crate::first::first_and_others;
 use crate::job::SliceJob;
 use crate::partition_output::PartitionOutput;
 use jb_rules::Row;
@@ -47,7 +48,7 @@ fn one_after(
     before: Option<&PartitionFaults>,
     new: &PartitionOutput,
 ) -> Result<PartitionFaults, AllocError>
-    ensures { IfOk result (λ faults. faults_held faults ≡ one_after (option_map (λ f. faults_held f.now) before.entry) (new_output_in new.now)) }
+    ensures { IfOk result (λ faults. faults_held faults ≡ one_after (option_map faults_held (option_copied before.entry)) (new_output_in new.now)) }
 {
     let mut skips = match before {
         Some(before) => Vec::from_slice(alloc, &before.skips)?,
@@ -60,14 +61,8 @@ fn one_after(
     })
 }
 
-/// The faults of the partition with this number, if it has started.
-fn faults_at(all: &[PartitionFaults], index: usize) -> Option<&PartitionFaults>
-    ensures { option_copied result ≡ slice_get all.now index }
-{
-    all.get(index)
-}
-
 /// The faults of the partitions after this new output.
+#[tactic(auto, using(std::proofs::lemmas::Grind::common_steps, crate::proofs::Grown::none_after))]
 pub(crate) fn faults_after(
     alloc: Global,
     before: &[PartitionFaults],
@@ -76,9 +71,11 @@ pub(crate) fn faults_after(
     ensures { IfOk result (λ faults. map faults_held faults.items ≡ faults_grown (map faults_held before.now) (map new_output_in new_output.now)) }
 {
     let mut all = Vec::new(alloc);
+    let mut before = before;
     for new in new_output {
-        let earlier = faults_at(before, all.len());
+        let (earlier, others) = first_and_others(before);
         all.push(one_after(alloc, earlier, new)?)?;
+        before = others;
     }
     Ok(all)
 }
@@ -117,6 +114,7 @@ fn add_failure(
 }
 
 /// The failed ones of these partitions.
+#[tactic(auto, using(std::proofs::lemmas::Grind::common_steps, crate::proofs::Grown::none_left))]
 fn failures_of(
     alloc: Global,
     rows: &[Row],
@@ -126,8 +124,15 @@ fn failures_of(
     ensures { IfOk result (λ failures. map failure_in failures.items ≡ failures_by 0 rows.now (map faults_held partitions.now)) }
 {
     let mut all = Vec::new(alloc);
-    for index in 0..rows.len().min(partitions.len()) {
-        add_failure(&mut all, index as u32, &rows[index], &partitions[index])?;
+    let mut rows = rows;
+    let mut partition: u32 = 0;
+    for faults in partitions {
+        let Some((row, others)) = rows.split_first() else {
+            return Ok(all);
+        };
+        add_failure(&mut all, partition, row, faults)?;
+        rows = others;
+        partition += 1;
     }
     Ok(all)
 }

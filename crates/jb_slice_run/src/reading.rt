@@ -18,13 +18,10 @@ use jb_base::{ClassId, PackedList};
 fn read_number(bytes: &[u8]) -> Option<u64>
     ensures { MatchOption result ((n : ℕ) → bytes.now ≡ number_string n → ⊥) (λ n. (bytes.now ≡ number_string n) × IsSmall n) }
 {
-    let Some((front, rest)) = bytes.split_first_chunk::<8>() else {
-        return None;
-    };
-    if !rest.is_empty() {
-        return None;
+    match <[u8; 8]>::try_from(bytes) {
+        Ok(eight) => Some(u64::from_le_bytes(eight)),
+        Err(_) => None,
     }
-    Some(u64::from_le_bytes(*front))
 }
 
 /// The limit that these bytes are.
@@ -63,18 +60,14 @@ pub(crate) fn read_limits(list: &PackedList) -> Result<SliceLimits, SliceError>
 fn read_fault(bytes: &[u8]) -> Option<Fault>
     ensures { MatchOption result ((fault : SliceFault) → bytes.now ≡ fault_string fault → ⊥) (λ fault. (bytes.now ≡ fault_string (fault_in fault)) × IsSmall fault.number) }
 {
-    let Some((front, rest)) = bytes.split_first_chunk::<8>() else {
-        return None;
-    };
-    if rest.len() != 1 {
-        return None;
-    }
-    if rest[0] >= 64 {
+    let (class, front) = bytes.split_last()?;
+    let number = read_number(front)?;
+    if *class >= 64 {
         return None;
     }
     Some(Fault {
-        number: u64::from_le_bytes(*front),
-        class: ClassId::new(rest[0]),
+        number,
+        class: ClassId::new(*class),
     })
 }
 
@@ -94,7 +87,7 @@ fn read_faults(list: &PackedList, faults: &mut Vec<Fault>) -> Result<(), SliceEr
 
 /// The stop that this list has, or `None`.
 fn read_stop(list: &PackedList) -> Result<Option<Fault>, SliceError>
-    ensures { MatchResult result (λ stop. (list.now ≡ stop_list (option_map fault_in stop)) × ForSome stop (λ fault. IsSmall fault.number)) (λ e. (e ≡ Damaged) × ((stop : Option SliceFault) → list.now ≡ stop_list stop → ⊥)) }
+    ensures { MatchResult result (λ stop. (list.now ≡ stop_list (option_map fault_in stop)) × ForSome (option_map fault_in stop) (λ (fault : SliceFault). IsSmall fault.number)) (λ e. (e ≡ Damaged) × ((stop : Option SliceFault) → list.now ≡ stop_list stop → ⊥)) }
 {
     match list.len() {
         0 => Ok(None),

@@ -1,6 +1,6 @@
 //! A slice's run in memory, and how far its checkpoints are.
 
-ghost use Rattle.std.specs.Prelude.{◌≡◌, ◌++◌, List, [], ◌∷◌, false, map, IfErr, IfOk, IsTrue, MatchOption, MatchResult, None};
+ghost use Rattle.std.specs.Prelude.{◌≡◌, ◌↔◌, ◌++◌, List, [], ◌∷◌, false, map, IfErr, IfOk, IsTrue, MatchOption, MatchResult, None};
 ghost use Rattle.jb_collect.specs.declared.calls.Status.TheVariants.{Failed};
 ghost use Rattle.jb_records.specs.PartitionResults.{AreAtTheirEnds};
 ghost use Rattle.jb_slice_file.specs.CheckpointBytes.{GoesOn, CheckpointBytes, checkpoint_bytes};
@@ -18,9 +18,7 @@ use crate::error::SliceError;
 use crate::fault::PartitionFaults;
 use crate::faults::all_new_output;
 use crate::job::SliceJob;
-use crate::laws::bytes_identify_checkpoints;
 use crate::named::faults_after;
-use crate::row_laws::rows_are_progress;
 use crate::writing::interval_checkpoint;
 use jb_base::PackedList;
 use jb_collect::Status;
@@ -123,16 +121,10 @@ fn next_interval<F: RowFunction + Drop + 'static, R: Threads + Wait + Sync>(
     ensures agrees { IfOk result (λ r. StatusMatchesRows r.0.has_failed r.0.stage (⟦<RecordsRun<F> as HasRunState>⟧.run_state r.0.run) r.0.rows.items) }
     ensures own { IfErr result (Explains AnyInterval) }
     ensures on { (functions : Functions) (all : List CheckpointBytes) → GoesOnFrom (job_in job.now) functions (F.answer function.now) (limits_in job.now.limits) number items.now (⟦<RecordsRun<F> as HasRunState>⟧.run_state run) before.items all
-        → IfOk result (λ r. HasGoneOnTo (job_in job.now) functions (F.answer function.now) (limits_in job.now.limits) number items.now all (⟦<RecordsRun<F> as HasRunState>⟧.run_state r.0.run) r.0.rows.items (checkpoint_bytes r.1)) }
-    ensures by { (functions : Functions) (all : List CheckpointBytes) → GoesOnFrom (job_in job.now) functions (F.answer function.now) (limits_in job.now.limits) number items.now (⟦<RecordsRun<F> as HasRunState>⟧.run_state run) before.items all
-        → IfOk result (λ r. GoesBy (limits_in job.now.limits) (all ++ checkpoint_bytes r.1 ∷ [])) }
-    ensures faults { (functions : Functions) (all : List CheckpointBytes) → GoesOnFrom (job_in job.now) functions (F.answer function.now) (limits_in job.now.limits) number items.now (⟦<RecordsRun<F> as HasRunState>⟧.run_state run) before.items all
-        → HoldsFaults (map faults_held held.items) all → IfOk result (λ r. HoldsFaults (map faults_held r.0.faults.items) (all ++ checkpoint_bytes r.1 ∷ [])) }
+        → IfOk result (λ r. HasGoneOnTo (job_in job.now) functions (F.answer function.now) (limits_in job.now.limits) number items.now all (map faults_held held.items) (⟦<RecordsRun<F> as HasRunState>⟧.run_state r.0.run) r.0.rows.items (map faults_held r.0.faults.items) (checkpoint_bytes r.1)) }
     ensures why { (functions : Functions) (all : List CheckpointBytes) → GoesOnFrom (job_in job.now) functions (F.answer function.now) (limits_in job.now.limits) number items.now (⟦<RecordsRun<F> as HasRunState>⟧.run_state run) before.items all
         → IfErr result (Explains (NextInterval (job_in job.now) functions number items.now all)) }
 {
-    bytes_identify_checkpoints();
-    rows_are_progress();
     rules_are_kept();
     let Some(first) = job.first_item(number, items.len()) else {
         return Err(SliceError::NoNumbers);
@@ -159,6 +151,15 @@ fn next_interval<F: RowFunction + Drop + 'static, R: Threads + Wait + Sync>(
         stage: Stage::SomeIntervals,
     };
     Ok((place, checkpoint))
+}
+
+impl<F: RowFunction + Drop> ResumableRun<F> {
+    /// Whether the slice is whole and its last checkpoint is stored.
+    pub(crate) fn is_whole(&self) -> bool
+        ensures { IsTrue result ↔ ((self.now.stage ≡ SomeIntervals) × AreAtTheirEnds (⟦<RecordsRun<F> as HasRunState>⟧.run_state self.now.run).setup.rows) }
+    {
+        matches!(self.stage, Stage::SomeIntervals) && self.run.is_whole()
+    }
 }
 
 impl<F: RowFunction + Drop + 'static> ResumableRun<F> {
@@ -200,7 +201,9 @@ impl<F: RowFunction + Drop + 'static> ResumableRun<F> {
             → IfOk result (λ r. StatusMatchesRows r.0.has_failed r.0.stage (⟦<RecordsRun<F> as HasRunState>⟧.run_state r.0.run) r.0.rows.items) }
         ensures again { IsRunDone self.has_failed self.stage (⟦<RecordsRun<F> as HasRunState>⟧.run_state self.run) → MatchResult result (λ r. r.1 ≡ None) (λ e. ⊥) }
     {
-        rows_are_progress();
+        if self.is_whole() {
+            return Ok((self, None));
+        }
         let ResumableRun {
             run,
             rows,
@@ -208,34 +211,19 @@ impl<F: RowFunction + Drop + 'static> ResumableRun<F> {
             has_failed,
             stage,
         } = self;
-        let is_done = run.is_whole();
-        match stage {
-            Stage::NoCheckpoint(first) => {
-                let place = ResumableRun {
-                    run,
-                    rows,
-                    faults,
-                    has_failed,
-                    stage: Stage::HeaderOnly,
-                };
-                Ok((place, Some(first)))
-            }
-            Stage::SomeIntervals if is_done => {
-                let place = ResumableRun {
-                    run,
-                    rows,
-                    faults,
-                    has_failed,
-                    stage: Stage::SomeIntervals,
-                };
-                Ok((place, None))
-            }
-            _ => {
-                let (place, next) = next_interval(
-                    rt, alloc, job, number, function, items, run, rows, faults, rounds,
-                )?;
-                Ok((place, Some(next)))
-            }
+        if let Stage::NoCheckpoint(first) = stage {
+            let place = ResumableRun {
+                run,
+                rows,
+                faults,
+                has_failed,
+                stage: Stage::HeaderOnly,
+            };
+            return Ok((place, Some(first)));
         }
+        let (place, next) = next_interval(
+            rt, alloc, job, number, function, items, run, rows, faults, rounds,
+        )?;
+        Ok((place, Some(next)))
     }
 }

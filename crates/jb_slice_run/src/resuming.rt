@@ -1,24 +1,20 @@
 //! Resuming a slice after its checkpoints.
 
-ghost use Rattle.std.specs.Prelude.{ℕ, List, ◌≡◌, ◌≤◌, ◌⊎◌, ◌-◌, ◌∷◌, [], false, length, map, slice_get, IfErr, IfOk, None, OnOk, Some};
+ghost use Rattle.std.specs.Prelude.{ℕ, List, ◌≡◌, ◌≤◌, ◌++◌, ◌∷◌, [], false, length, map, IfErr, IfOk, OnOk};
 ghost use Rattle.std.specs.Arc.{arc_value};
-ghost use Rattle.jb_records.specs.declared.error.RecordsStepError.{RecordsStepError as RecordsStepFault};
-ghost use Rattle.jb_records.specs.Causes.{Call, Explains as ExplainsStep};
-ghost use Rattle.jb_records.specs.Function.{steady};
 ghost use Rattle.jb_slice_file.specs.CheckpointBytes.{CheckpointBytes, checkpoint_bytes};
-ghost use Rattle.jb_slices.specs.Checkpoint.{Begins, Header};
+ghost use Rattle.jb_slices.specs.Function.{Function};
 ghost use Rattle.jb_slices.specs.Slice.{Functions};
-ghost use Rattle.jb_slice_run.specs.Causes.{Explains, InMemory, IsFirstOwn, IsHeaderLong, Resuming};
+ghost use Rattle.jb_slice_run.specs.Causes.{Explains, InMemory, IsFirstOwn, Resuming};
 ghost use Rattle.jb_slice_run.specs.Held.{header_in, limits_in, new_output_in};
 ghost use Rattle.jb_slice_run.specs.Jobs.{job_in, kept_stamps, own_header, stamps_in};
-ghost use Rattle.jb_slice_run.specs.SliceBytes.{IsStoredAs, KeepsSlice};
+ghost use Rattle.jb_slice_run.specs.SliceBytes.{KeepsSlice};
 ghost use Rattle.jb_slice_run.specs.Named.{HoldsFaults, faults_by, faults_held};
-ghost use Rattle.jb_slice_run.specs.Refusals.{IsHeaderCause, IsHeaderRefusal, IsOwn};
+ghost use Rattle.jb_slice_run.specs.Resuming.{HasBegun, HasResumed, IsOpened};
 ghost use Rattle.jb_slice_run.specs.Step.{AreStampsOf, IsStepOfSlice};
 ghost use Rattle.jb_slice_run.specs.Whole.{KeepsWhole};
-ghost use Rattle.jb_slice_run.specs.Work.{HasNoResults, IsRunDone, StatusMatchesRows, HasIntervals, RunsSlice, SliceStandsAt};
-ghost use Rattle.jb_slice_run.specs.declared.error.SliceError.TheVariants.{Damaged, Memory, Step, TooLong};
-ghost use Rattle.jb_slice_run.specs.declared.resumable_run.Stage.TheVariants.{HeaderOnly, SomeIntervals};
+ghost use Rattle.jb_slice_run.specs.Work.{IsRunDone, StatusMatchesRows, SliceStandsAt};
+ghost use Rattle.jb_slice_run.specs.declared.resumable_run.Stage.TheVariants.{SomeIntervals};
 
 use crate::digest::digest_of;
 use crate::error::SliceError;
@@ -26,11 +22,9 @@ use crate::fault::PartitionFaults;
 use crate::header::{SliceHeader, SliceLimits};
 use crate::intervals::read_slice;
 use crate::job::SliceJob;
-use crate::laws::bytes_identify_checkpoints;
 use crate::lists::{HeaderLists, refuse_lowered};
 use crate::partition_output::PartitionOutput;
 use crate::resumable_run::{ResumableRun, Stage};
-use crate::row_laws::rows_are_progress;
 use crate::writing::header_checkpoint;
 use jb_base::PackedList;
 use jb_records::{HasRunState, RecordsRun, RecordsStep, rules_are_kept};
@@ -48,7 +42,7 @@ fn header_of<'a>(
     items: &PackedList,
 ) -> Result<SliceHeader<'a>, SliceError>
     ensures is { IfOk result (λ header. header_in header ≡ own_header job.now number items.now) }
-    ensures why { IfErr result (λ e. (e ≡ Memory) ⊎ (e ≡ TooLong) × IsHeaderLong (own_header job.now number items.now) items.now) }
+    ensures why { (f : Function) (all : List CheckpointBytes) → IfErr result (Explains (Resuming job.now f number items.now InMemory all)) }
 {
     let digest = digest_of(alloc, items)?;
     Ok(job.header(number, items.len() as u64, digest))
@@ -57,18 +51,19 @@ fn header_of<'a>(
 /// The limits with which a slice with this first checkpoint began. The checkpoint must be our own.
 fn own_limits(
     alloc: Global,
+    job: &SliceJob,
+    number: u64,
+    items: &PackedList,
     own: &SliceHeader,
-    stamps: &[&str],
     first: &Checkpoint,
 ) -> Result<SliceLimits, SliceError>
-    ensures own { OnOk result ((h : Header) → IsStoredAs (Begins h) (checkpoint_bytes first.now) → IsOwn (header_in own.now) (map (λ stamp. stamp.now) stamps.now) h) }
-    ensures limits { (h : Header) → IsStoredAs (Begins h) (checkpoint_bytes first.now) → IfOk result (λ limits. limits_in limits ≡ h.limits) }
-    ensures why { IfErr result (λ e. (e ≡ Memory) ⊎ (e ≡ Damaged) × ((h : Header) → IsStoredAs (Begins h) (checkpoint_bytes first.now) → ⊥)
-        ⊎ IsHeaderRefusal e × ((h : Header) → IsStoredAs (Begins h) (checkpoint_bytes first.now) → IsHeaderCause (header_in own.now) (map (λ stamp. stamp.now) stamps.now) h e)) }
+    requires own { header_in own.now ≡ own_header job.now number items.now }
+    ensures opened { IfOk result (λ limits. IsOpened job.now number items.now (limits_in limits) (checkpoint_bytes first.now)) }
+    ensures why { (f : Function) (later : List CheckpointBytes) → IfErr result (Explains (Resuming job.now f number items.now InMemory (checkpoint_bytes first.now ∷ later))) }
 {
     let held = HeaderLists::read(alloc, first)?;
     let own = HeaderLists::of(alloc, own)?;
-    held.refuse_others(&own, stamps)?;
+    held.refuse_others(&own, job.stamps)?;
     let limits = held.limits()?;
     Ok(limits)
 }
@@ -105,16 +100,9 @@ fn begun<F: RowFunction + Drop>(
     stage: Stage,
 ) -> Result<ResumableRun<F>, SliceError>
     requires step { IsStepOfSlice (job_in job.now) (limits_in job.now.limits) job.now.threads step.now }
-    ensures runs { IfOk result (λ place. RunsSlice (job_in job.now) (F.answer (arc_value function.now)) (limits_in job.now.limits) items.now (⟦<RecordsRun<F> as HasRunState>⟧.run_state place.run)) }
-    ensures empty { IfOk result (λ place. HasNoResults (⟦<RecordsRun<F> as HasRunState>⟧.run_state place.run)) }
-    ensures stage { IfOk result (λ place. place.stage ≡ stage) }
-    ensures rows { IfOk result (λ place. place.rows.items ≡ []) }
-    ensures faults { IfOk result (λ place. place.faults.items ≡ []) }
-    ensures fresh { IfOk result (λ place. place.has_failed ≡ false) }
-    ensures agrees { IfOk result (λ place. StatusMatchesRows place.has_failed place.stage (⟦<RecordsRun<F> as HasRunState>⟧.run_state place.run) place.rows.items) }
-    ensures why { IfErr result (λ e. (why : RecordsStepFault) × (e ≡ Step why) × ExplainsStep (Call (steady (F.answer (arc_value function.now))) step.now items.now None) why) }
+    ensures place { IfOk result (λ place. HasBegun (job_in job.now) (F.answer (arc_value function.now)) (limits_in job.now.limits) items.now stage place.has_failed place.stage (⟦<RecordsRun<F> as HasRunState>⟧.run_state place.run) place.rows.items (map faults_held place.faults.items)) }
+    ensures why { (number : ℕ) (all : List CheckpointBytes) → IfErr result (Explains (Resuming job.now (F.answer (arc_value function.now)) number items.now InMemory all)) }
 {
-    rows_are_progress();
     let run = RecordsRun::begin(alloc, step, function, items)?;
     Ok(ResumableRun {
         run,
@@ -137,22 +125,19 @@ fn blank<F: RowFunction + Drop>(
 ) -> Result<ResumableRun<F>, SliceError>
     requires step { IsStepOfSlice (job_in job.now) (limits_in job.now.limits) job.now.threads step.now }
     requires own { header_in own.now ≡ own_header job.now number items.now }
-    ensures stands { (functions : Functions) (all : List CheckpointBytes) → all ≡ [] → functions job.now.stamp.now ≡ F.answer (arc_value function.now)
-        → IfOk result (λ place. SliceStandsAt (job_in job.now) functions (F.answer (arc_value function.now)) (limits_in job.now.limits) number items.now place.stage (⟦<RecordsRun<F> as HasRunState>⟧.run_state place.run) place.rows.items all) }
-    ensures fresh { IfOk result (λ place. place.has_failed ≡ false) }
-    ensures agrees { IfOk result (λ place. StatusMatchesRows place.has_failed place.stage (⟦<RecordsRun<F> as HasRunState>⟧.run_state place.run) place.rows.items) }
-    ensures faults { IfOk result (λ place. place.faults.items ≡ []) }
-    ensures why { (all : List CheckpointBytes) → IfErr result (Explains (Resuming job.now (F.answer (arc_value function.now)) number items.now InMemory all)) }
+    ensures place { IfOk result (λ place. HasResumed job.now (F.answer (arc_value function.now)) number items.now [] place.has_failed place.stage (⟦<RecordsRun<F> as HasRunState>⟧.run_state place.run) place.rows.items (map faults_held place.faults.items)) }
+    ensures why { IfErr result (Explains (Resuming job.now (F.answer (arc_value function.now)) number items.now InMemory [])) }
 {
     let first = header_checkpoint(alloc, own)?;
-    begun(
+    let place = begun(
         alloc,
         job,
         step,
         function,
         items,
         Stage::NoCheckpoint(first),
-    )
+    )?;
+    Ok(place)
 }
 
 /// Begins after the header, which has these limits.
@@ -165,19 +150,14 @@ fn after_header<F: RowFunction + Drop>(
     limits: SliceLimits,
 ) -> Result<ResumableRun<F>, SliceError>
     requires step { IsStepOfSlice (job_in job.now) (limits_in job.now.limits) job.now.threads step.now }
-    ensures stands { (functions : Functions) (number : ℕ) (first : CheckpointBytes) (h : Header) (all : List CheckpointBytes) → all ≡ first ∷ [] → IsStoredAs (Begins h) first → h.limits ≡ limits_in limits → functions h.stamp ≡ F.answer (arc_value function.now)
-        → KeepsSlice (job_in job.now) functions number items.now all
-        → IfOk result (λ place. SliceStandsAt (job_in job.now) functions (F.answer (arc_value function.now)) (limits_in job.now.limits) number items.now place.stage (⟦<RecordsRun<F> as HasRunState>⟧.run_state place.run) place.rows.items all) }
-    ensures stage { IfOk result (λ place. place.stage ≡ HeaderOnly) }
-    ensures faults { IfOk result (λ place. place.faults.items ≡ []) }
-    ensures fresh { IfOk result (λ place. place.has_failed ≡ false) }
-    ensures agrees { IfOk result (λ place. StatusMatchesRows place.has_failed place.stage (⟦<RecordsRun<F> as HasRunState>⟧.run_state place.run) place.rows.items) }
-    ensures why { (number : ℕ) (first : CheckpointBytes) → ((h : Header) → IsStoredAs (Begins h) first → h.limits ≡ limits_in limits)
+    ensures place { (number : ℕ) (first : CheckpointBytes) → IsOpened job.now number items.now (limits_in limits) first
+        → IfOk result (λ place. HasResumed job.now (F.answer (arc_value function.now)) number items.now (first ∷ []) place.has_failed place.stage (⟦<RecordsRun<F> as HasRunState>⟧.run_state place.run) place.rows.items (map faults_held place.faults.items)) }
+    ensures why { (number : ℕ) (first : CheckpointBytes) → IsOpened job.now number items.now (limits_in limits) first
         → IfErr result (Explains (Resuming job.now (F.answer (arc_value function.now)) number items.now InMemory (first ∷ []))) }
 {
-    bytes_identify_checkpoints();
     refuse_lowered(job.limits, limits)?;
-    begun(alloc, job, step, function, items, Stage::HeaderOnly)
+    let place = begun(alloc, job, step, function, items, Stage::HeaderOnly)?;
+    Ok(place)
 }
 
 /// Resumes after these intervals, the last of which is `last`. The header before them has these limits.
@@ -192,24 +172,13 @@ fn behind<F: RowFunction + Drop>(
     last: &Checkpoint,
 ) -> Result<ResumableRun<F>, SliceError>
     requires step { IsStepOfSlice (job_in job.now) (limits_in job.now.limits) job.now.threads step.now }
-    requires last { slice_get later.now (length later.now - 1) ≡ Some last.now }
-    ensures underway { (functions : Functions) (number : ℕ) (first : CheckpointBytes) (h : Header) → IsStoredAs (Begins h) first → h.limits ≡ limits_in limits → functions h.stamp ≡ F.answer (arc_value function.now)
-        → KeepsSlice (job_in job.now) functions number items.now (first ∷ map checkpoint_bytes later.now)
-        → IfOk result (λ place. HasIntervals (job_in job.now) functions (F.answer (arc_value function.now)) (limits_in job.now.limits) number items.now (⟦<RecordsRun<F> as HasRunState>⟧.run_state place.run) place.rows.items (first ∷ map checkpoint_bytes later.now)) }
-    ensures stage { IfOk result (λ place. place.stage ≡ SomeIntervals) }
-    ensures faults { (functions : Functions) (number : ℕ) (first : CheckpointBytes) → KeepsSlice (job_in job.now) functions number items.now (first ∷ map checkpoint_bytes later.now)
-        → IfOk result (λ place. HoldsFaults (map faults_held place.faults.items) (first ∷ map checkpoint_bytes later.now)) }
-    ensures fresh { IfOk result (λ place. place.has_failed ≡ false) }
-    ensures agrees { IfOk result (λ place. StatusMatchesRows place.has_failed place.stage (⟦<RecordsRun<F> as HasRunState>⟧.run_state place.run) place.rows.items) }
-    ensures done { (functions : Functions) (number : ℕ) (first : CheckpointBytes) (h : Header) → IsStoredAs (Begins h) first → h.limits ≡ limits_in limits → functions h.stamp ≡ F.answer (arc_value function.now)
-        → KeepsWhole (job_in job.now) functions (limits_in job.now.limits) number items.now (first ∷ map checkpoint_bytes later.now)
-        → IfOk result (λ place. IsRunDone place.has_failed place.stage (⟦<RecordsRun<F> as HasRunState>⟧.run_state place.run)) }
-    ensures why { (number : ℕ) (first : CheckpointBytes) → ((h : Header) → IsStoredAs (Begins h) first → h.limits ≡ limits_in limits)
+    requires last { (before : List CheckpointBytes) × (map checkpoint_bytes later.now ≡ before ++ checkpoint_bytes last.now ∷ []) }
+    ensures place { (number : ℕ) (first : CheckpointBytes) → IsOpened job.now number items.now (limits_in limits) first
+        → IfOk result (λ place. HasResumed job.now (F.answer (arc_value function.now)) number items.now (first ∷ map checkpoint_bytes later.now) place.has_failed place.stage (⟦<RecordsRun<F> as HasRunState>⟧.run_state place.run) place.rows.items (map faults_held place.faults.items)) }
+    ensures why { (number : ℕ) (first : CheckpointBytes) → IsOpened job.now number items.now (limits_in limits) first
         → IfErr result (Explains (Resuming job.now (F.answer (arc_value function.now)) number items.now InMemory (first ∷ map checkpoint_bytes later.now))) }
 {
     rules_are_kept();
-    rows_are_progress();
-    bytes_identify_checkpoints();
     let held = read_slice(alloc, limits, later, job.partitions)?;
     refuse_lowered(job.limits, held.limits)?;
     let rows = {
@@ -225,6 +194,32 @@ fn behind<F: RowFunction + Drop>(
         has_failed: false,
         stage: Stage::SomeIntervals,
     })
+}
+
+/// Resumes after these checkpoints, or begins with this header.
+fn resumed<F: RowFunction + Drop>(
+    alloc: Global,
+    job: &SliceJob,
+    step: &RecordsStep,
+    function: &Arc<F, Global>,
+    number: u64,
+    items: &PackedList,
+    own: &SliceHeader,
+    done: &[Checkpoint],
+) -> Result<ResumableRun<F>, SliceError>
+    requires step { IsStepOfSlice (job_in job.now) (limits_in job.now.limits) job.now.threads step.now }
+    requires own { header_in own.now ≡ own_header job.now number items.now }
+    ensures place { IfOk result (λ place. HasResumed job.now (F.answer (arc_value function.now)) number items.now (map checkpoint_bytes done.now) place.has_failed place.stage (⟦<RecordsRun<F> as HasRunState>⟧.run_state place.run) place.rows.items (map faults_held place.faults.items)) }
+    ensures why { IfErr result (Explains (Resuming job.now (F.answer (arc_value function.now)) number items.now InMemory (map checkpoint_bytes done.now))) }
+{
+    let Some((first, later)) = done.split_first() else {
+        return blank(alloc, job, step, function, number, items, own);
+    };
+    let limits = own_limits(alloc, job, number, items, own, first)?;
+    match later.split_last() {
+        None => after_header(alloc, job, step, function, items, limits),
+        Some((last, _)) => behind(alloc, job, step, function, items, limits, later, last),
+    }
 }
 
 /// Resumes the slice with this number and these items after its checkpoints. It begins if there are none, or only the header. A slice with another
@@ -254,16 +249,8 @@ pub fn resume<F: RowFunction + Drop>(
     ensures own { OnOk result (IsFirstOwn (own_header job.now number items.now) (kept_stamps job.now) (map checkpoint_bytes done.now)) }
     ensures cause { IfErr result (Explains (Resuming job.now (F.answer (arc_value function.now)) number items.now InMemory (map checkpoint_bytes done.now))) }
 {
-    rows_are_progress();
-    bytes_identify_checkpoints();
     let step = job.step(alloc)?;
     let own = header_of(alloc, job, number, items)?;
-    let Some((first, later)) = done.split_first() else {
-        return blank(alloc, job, &step, function, number, items, &own);
-    };
-    let limits = own_limits(alloc, &own, job.stamps, first)?;
-    match later.last() {
-        None => after_header(alloc, job, &step, function, items, limits),
-        Some(last) => behind(alloc, job, &step, function, items, limits, later, last),
-    }
+    let place = resumed(alloc, job, &step, function, number, items, &own, done)?;
+    Ok(place)
 }

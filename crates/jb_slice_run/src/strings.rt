@@ -13,6 +13,7 @@ use jb_base::PackedList;
 use std::alloc::{AllocError, Global};
 
 /// A number's eight bytes, the lowest first.
+#[tactic(auto, unfolding(crate::specs::Strings::number_string))]
 fn number_bytes(number: u64) -> [u8; 8]
     ensures bytes { result ≡ number_string number }
     ensures small { IsSmall number }

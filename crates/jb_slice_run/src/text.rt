@@ -29,13 +29,14 @@ fn write_text(out: &mut Writer, name: &str, text: &str) -> Result<(), AllocError
 
 /// Writes what this form is, and whose slice it is.
 fn write_slice(out: &mut Writer, header: &SliceHeader) -> Result<(), AllocError>
-    ensures slice { OnOk result (out.new.tokens ≡ out.old.tokens ++ (member_tokens (codes "form") (number_tree form_version)
-        ++ (member_tokens (codes "job") (string_tree (header_in header.now).job.name) ++ member_tokens (codes "slice") (number_tree (header_in header.now).number)))) }
+    ensures slice { OnOk result (out.new.tokens ≡ ((out.old.tokens ++ member_tokens (codes "form") (number_tree form_version))
+        ++ member_tokens (codes "job") (string_tree (header_in header.now).job.name)) ++ member_tokens (codes "slice") (number_tree (header_in header.now).number)) }
     ensures before { out.new.before ≡ out.old.before }
 {
     write_number(out, "form", VERSION)?;
     write_text(out, "job", header.name)?;
-    write_number(out, "slice", header.number)
+    write_number(out, "slice", header.number)?;
+    Ok(())
 }
 
 /// Writes how many items the slice has, and how they are divided.
@@ -49,7 +50,8 @@ fn write_sizes(out: &mut Writer, header: &SliceHeader) -> Result<(), AllocError>
     write_number(out, "items", header.items)?;
     write_number(out, "slice-length", header.slice_length)?;
     write_number(out, "partitions", u64::from(header.partitions))?;
-    write_number(out, "item-count", header.item_count)
+    write_number(out, "item-count", header.item_count)?;
+    Ok(())
 }
 
 /// Writes texts.
@@ -71,19 +73,21 @@ fn write_names(out: &mut Writer, names: &[&str]) -> Result<(), AllocError>
     out.key("classes")?;
     out.begin_array()?;
     write_texts(out, names)?;
-    out.end_array()
+    out.end_array()?;
+    Ok(())
 }
 
 /// Writes what may be skipped and retried.
 fn write_sets(out: &mut Writer, header: &SliceHeader) -> Result<(), AllocError>
-    ensures sets { OnOk result (out.new.tokens ≡ out.old.tokens ++ (member_tokens (codes "skippable") (classes_tree (header_in header.now).job.classes.skippable)
-        ++ (member_tokens (codes "retryable") (classes_tree (header_in header.now).job.classes.retryable)
-        ++ member_tokens (codes "no-rollback") (classes_tree (header_in header.now).job.classes.no_rollback)))) }
+    ensures sets { OnOk result (out.new.tokens ≡ ((out.old.tokens ++ member_tokens (codes "skippable") (classes_tree (header_in header.now).job.classes.skippable))
+        ++ member_tokens (codes "retryable") (classes_tree (header_in header.now).job.classes.retryable))
+        ++ member_tokens (codes "no-rollback") (classes_tree (header_in header.now).job.classes.no_rollback)) }
     ensures before { out.new.before ≡ out.old.before }
 {
     write_set(out, "skippable", header.skippable)?;
     write_set(out, "retryable", header.retryable)?;
-    write_set(out, "no-rollback", header.no_rollback)
+    write_set(out, "no-rollback", header.no_rollback)?;
+    Ok(())
 }
 
 /// Writes a key with its limit.
@@ -97,13 +101,14 @@ fn write_key_limit(out: &mut Writer, name: &str, limit: Option<u64>) -> Result<(
 
 /// Writes the limits.
 fn write_limits(out: &mut Writer, limits: SliceLimits) -> Result<(), AllocError>
-    ensures limits { OnOk result (out.new.tokens ≡ out.old.tokens ++ (member_tokens (codes "skip-limit") (limit_tree (limits_in limits).skips)
-        ++ (member_tokens (codes "job-skip-limit") (limit_tree (limits_in limits).job_skips) ++ member_tokens (codes "retry-limit") (number_tree (limits_in limits).retries)))) }
+    ensures limits { OnOk result (out.new.tokens ≡ ((out.old.tokens ++ member_tokens (codes "skip-limit") (limit_tree (limits_in limits).skips))
+        ++ member_tokens (codes "job-skip-limit") (limit_tree (limits_in limits).job_skips)) ++ member_tokens (codes "retry-limit") (number_tree (limits_in limits).retries)) }
     ensures before { out.new.before ≡ out.old.before }
 {
     write_key_limit(out, "skip-limit", limits.skips)?;
     write_key_limit(out, "job-skip-limit", limits.job_skips)?;
-    write_number(out, "retry-limit", limits.retries)
+    write_number(out, "retry-limit", limits.retries)?;
+    Ok(())
 }
 
 /// Writes a header.
@@ -118,7 +123,8 @@ fn write_header(out: &mut Writer, header: &SliceHeader) -> Result<(), AllocError
     write_sets(out, header)?;
     write_limits(out, header.limits)?;
     write_text(out, "stamp", header.stamp)?;
-    out.end_object()
+    out.end_object()?;
+    Ok(())
 }
 
 /// The text of bytes that are a text.
@@ -135,5 +141,6 @@ pub(crate) fn header_text(alloc: Global, header: &SliceHeader) -> Result<String,
 {
     let mut out = Writer::new(Vec::new(alloc));
     write_header(&mut out, header)?;
-    text_of(out.into_inner())
+    let text = text_of(out.into_inner())?;
+    Ok(text)
 }

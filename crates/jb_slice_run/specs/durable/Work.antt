@@ -1,13 +1,15 @@
 -- What a run of a slice works on, and where its work is over a connection.
-use Rattle.std.specs.Prelude.{ℕ, Bool, List, IsTrue, ◌≡◌, ⊤}
+use Rattle.std.specs.Prelude.{ℕ, ◌≡◌, ◌≤◌, ◌⊎◌, Bool, List, length, IsTrue, ⊤}
 use Rattle.sqlite.specs.State.{HasCleanDisk, State}
+use Rattle.sqlite_disk.specs.Disk.{MoreFaults}
+use Rattle.sqlite_trees.specs.View.{doubt}
 use Rattle.jb_records.specs.PartitionResults.{AreAtTheirEnds}
 use Rattle.jb_records.specs.Intervals.{RunState}
 use Rattle.jb_rules.specs.declared.row.Row.{Row}
 use Rattle.jb_slice_file.specs.Connections.{IsJustOpened, Keeps}
 use Rattle.jb_slice_file.specs.CheckpointBytes.{CheckpointBytes}
 use Rattle.jb_slice_file.specs.ListEnd.{IsEndOf}
-use Rattle.jb_slice_file.specs.Rows.{Has, ShowsList}
+use Rattle.jb_slice_file.specs.Rows.{ShowsList}
 use Rattle.jb_slice_file.specs.declared.list_end.ListEnd.{ListEnd}
 use Rattle.jb_slices.specs.Function.{Function}
 use Rattle.jb_slices.specs.Job.{Job, Limits}
@@ -18,7 +20,7 @@ use Rattle.jb_slice_run.specs.SliceBytes.{KeepsSlice}
 use Rattle.jb_slice_run.specs.Named.{Faults, HoldsFaults}
 use Rattle.jb_slice_run.specs.Step.{AreStampsOf}
 use Rattle.jb_slice_run.specs.Whole.{KeepsFailed, KeepsWhole}
-use Rattle.jb_slice_run.specs.Work.{GoesBy, IsRunDone, StatusMatchesRows, SliceStandsAt}
+use Rattle.jb_slice_run.specs.Work.{GoesBy, StatusMatchesRows, SliceStandsAt}
 use Rattle.jb_slice_run.specs.declared.job.SliceJob.{SliceJob}
 use Rattle.jb_slice_run.specs.declared.resumable_run.Stage.{Stage}
 use Rattle.jb_slice_run.specs.declared.resumable_run.Stage.TheVariants.{SomeIntervals}
@@ -69,11 +71,11 @@ abbrev pub IfResumed : SliceJob → Function → (number : ℕ) → (items : Lis
 IfResumed job f number items old new Holds =
     (functions : Functions) (all : List CheckpointBytes) → IsResumed (slice_input_of job functions f number items) (stamps_in job) old new all → Holds (slice_input_of job functions f number items) all
 
--- if the database that was opened has checkpoints of the slice so far, this holds
-abbrev pub IfHad : SliceJob → Function → (number : ℕ) → (items : List (List ℕ)) → (old new : State) → (SliceInput → List CheckpointBytes → Type 0) → Type 0
-IfHad job f number items old new Holds =
-    HasCleanDisk new → IsJustOpened old → (functions : Functions) → AreStampsOf functions f (stamps_in job) → (all : List CheckpointBytes) → Has old.now.trees all
-    → SoFar (slice_input_of job functions f number items) all → Holds (slice_input_of job functions f number items) all
+-- A LATER STATE of a connection. No fault of its disk and no doubt about it is taken back. What was open is open, or a call of the disk failed since.
+pub record IsLater (old new : State) : Type 0 where
+  pub counts : old.faults ≤ new.faults
+  pub clean : doubt old.is_clean ≤ doubt new.is_clean
+  pub shut : HasCleanDisk new → IsTrue old.is_open → IsTrue new.is_open ⊎ MoreFaults old.faults new.faults
 
 -- ---- WHERE THE WORK STANDS
 
@@ -85,21 +87,21 @@ pub record Seen : Type 0 where
   pub rows : List Row
   pub faults : List Faults
 
--- its status matches its rows; and nothing is left to run
+-- its status matches its rows
 abbrev pub SeenMatchesRows : Seen → Type 0
 SeenMatchesRows at = StatusMatchesRows at.has_failed at.stage at.run at.rows
 
-abbrev pub IsSeenDone : Seen → Type 0
-IsSeenDone at = IsRunDone at.has_failed at.stage at.run
-
--- The connection holds the checkpoints of the slice so far, which end here. The run in memory is after them, and has their faults. If the slice has
--- failed, the last checkpoint has the call's limits.
-pub record FileMatchesMemory (w : SliceInput) (s : State) (at : Seen) (end : ListEnd) (all : List CheckpointBytes) : Type 0 where
-  pub keeps : Keeps s all
-  pub so_far : SoFar w all
+-- The run in memory is after these checkpoints, and has their faults. If the slice has failed, the last checkpoint has the call's limits.
+pub record StandsAfter (w : SliceInput) (at : Seen) (all : List CheckpointBytes) : Type 0 where
   pub place : SliceStandsAt w.job w.functions w.f w.limits w.number w.items at.stage at.run at.rows all
   pub faults : HoldsFaults at.faults all
   pub by : IsTrue at.has_failed → GoesBy w.limits all
+
+-- the connection holds the checkpoints of the slice so far, which end here, and the run in memory is after them
+pub record FileMatchesMemory (w : SliceInput) (s : State) (at : Seen) (end : ListEnd) (all : List CheckpointBytes) : Type 0 where
+  pub keeps : Keeps s all
+  pub so_far : SoFar w all
+  pub stands : StandsAfter w at all
   pub ends : IsEndOf end all
 
 -- if the file matches the memory as a call begins, this holds
@@ -108,15 +110,6 @@ IfFileMatchesMemory job f number items old new at end Holds =
     HasCleanDisk new → (functions : Functions) (all : List CheckpointBytes) → FileMatchesMemory (slice_input_of job functions f number items) old at end all → Holds (slice_input_of job functions f number items) all
 
 -- ---- WHERE THE INTERVALS ENDED
-
--- this holds if the intervals ended with `Whole`, or with `Intervals`
-abbrev pub IfWhole : LoopEnd → Type 0 → Type 0
-IfWhole Whole Holds = Holds
-IfWhole _ Holds = ⊤
-
-abbrev pub IfCut : LoopEnd → Type 0 → Type 0
-IfCut Intervals Holds = Holds
-IfCut _ Holds = ⊤
 
 -- If the intervals ended with `Whole`, each partition is at its end, and an interval is stored. If they ended with `Failed`, the slice has failed.
 abbrev pub EndsAs : Seen → LoopEnd → Type 0
@@ -128,14 +121,9 @@ pub record LoopEndMatchesRows (at : Seen) (loop_end : LoopEnd) : Type 0 where
   pub agrees : SeenMatchesRows at
   pub ends : EndsAs at loop_end
 
--- the run in memory is after these checkpoints, with their faults; they store a whole slice if the intervals ended with `Whole`
-pub record StandsPaused (w : SliceInput) (at : Seen) (loop_end : LoopEnd) (all : List CheckpointBytes) : Type 0 where
-  pub place : SliceStandsAt w.job w.functions w.f w.limits w.number w.items at.stage at.run at.rows all
-  pub faults : HoldsFaults at.faults all
-  pub by : IsTrue at.has_failed → GoesBy w.limits all
-  pub whole : IfWhole loop_end (IsWhole w all)
-
--- the file matches the memory; the stored slice is whole if the intervals ended with `Whole`
-pub record HasLoopEnded (w : SliceInput) (s : State) (at : Seen) (loop_end : LoopEnd) (end : ListEnd) (all : List CheckpointBytes) : Type 0 where
+-- The file matches the memory after these checkpoints. If the intervals ended with `Intervals`, there are at least as many as were asked for.
+pub record HasRun (w : SliceInput) (s : State) (at : Seen) (loop_end : LoopEnd) (intervals : ℕ) : Type 0 where
+  pub all : List CheckpointBytes
+  pub end : ListEnd
   pub rests : FileMatchesMemory w s at end all
-  pub whole : IfWhole loop_end (IsWhole w all)
+  pub cut : loop_end ≡ Intervals → intervals ≤ length all

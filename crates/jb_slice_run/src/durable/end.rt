@@ -11,21 +11,21 @@ ghost use Rattle.jb_slice_run.specs.Named.{faults_held};
 ghost use Rattle.jb_slice_run.specs.Refusals.{IsRefusal};
 ghost use Rattle.jb_slice_run.specs.Work.{HaveRowsEnded};
 ghost use Rattle.jb_step.specs.Statuses.{status_of};
-ghost use Rattle.jb_slice_run.specs.durable.Ends.{HasEnded};
-ghost use Rattle.jb_slice_run.specs.durable.Work.{LoopEndMatchesRows, StandsPaused, slice_input_of};
-ghost use Rattle.jb_slice_run.specs.declared.error.SliceError.TheVariants.{Stopped, TooMany};
-ghost use Rattle.jb_slice_run.specs.declared.durable.loop_end.LoopEnd.TheVariants.{Failed as Failing, Intervals, Whole};
+ghost use Rattle.jb_slice_run.specs.durable.Ends.{Tells};
+ghost use Rattle.jb_slice_run.specs.durable.Work.{LoopEndMatchesRows, StandsAfter, slice_input_of};
+ghost use Rattle.jb_slice_run.specs.declared.durable.loop_end.LoopEnd.TheVariants.{Failed as Failing, Whole};
 
 use crate::durable::loop_end::LoopEnd;
 use crate::durable::seen::Placed;
 use crate::{
-    Fault, PartitionFailure, PartitionFaults, ResumableRun, SliceError, SliceJob,
-    bytes_identify_checkpoints, faults_of_slice, rows_are_progress,
+    Fault, PartitionFailure, PartitionFaults, ResumableRun, SliceError, SliceJob, faults_of_slice,
+    rows_are_progress,
 };
 use jb_base::PackedList;
 use jb_collect::Status;
 use jb_rows::RowFunction;
 use jb_rules::Row;
+use jb_slices::{failures_are_named, slices_follow_the_rules, slices_have_results};
 use std::alloc::{AllocError, Global};
 
 /// How a slice ended.
@@ -62,7 +62,7 @@ fn status_at(loop_end: LoopEnd) -> Result<Status, SliceError>
     ensures whole { IfOk result (λ status. status ≡ Completed → loop_end ≡ Whole) }
     ensures failed { IfOk result (λ status. status ≡ Failed → loop_end ≡ Failing) }
     ensures again { loop_end ≡ Whole → MatchResult result (λ status. status ≡ Completed) (λ e. ⊥) }
-    ensures cut { IfErr result (λ e. ((e ≡ TooMany) × (loop_end ≡ Intervals)) ⊎ (e ≡ Stopped)) }
+    ensures why { IfErr result (Explains (Ending loop_end)) }
     ensures own { IfErr result (λ e. IsRefusal e → ⊥) }
 {
     match loop_end {
@@ -92,15 +92,18 @@ pub(crate) fn ended<F: RowFunction + Drop>(
     place: ResumableRun<F>,
     loop_end: LoopEnd,
 ) -> Result<SliceEnd, SliceError>
-    ensures ends { (functions : Functions) (f : Function) (number : ℕ) (items : List (List ℕ)) (all : List CheckpointBytes) → StandsPaused (slice_input_of job.now functions f number items) (⟦<ResumableRun<F> as Placed>⟧.seen place) loop_end all → LoopEndMatchesRows (⟦<ResumableRun<F> as Placed>⟧.seen place) loop_end → IfOk result (λ end. HasEnded (slice_input_of job.now functions f number items) end all) }
+    requires { LoopEndMatchesRows (⟦<ResumableRun<F> as Placed>⟧.seen place) loop_end }
+    ensures told { (functions : Functions) (f : Function) (number : ℕ) (items : List (List ℕ)) (all : List CheckpointBytes) → StandsAfter (slice_input_of job.now functions f number items) (⟦<ResumableRun<F> as Placed>⟧.seen place) all → IfOk result (λ end. Tells (slice_input_of job.now functions f number items) end all) }
     ensures why { IfErr result (Explains (Ending loop_end)) }
-    ensures agrees { LoopEndMatchesRows (⟦<ResumableRun<F> as Placed>⟧.seen place) loop_end → IfOk result (λ end. (end.status ≡ status_of end.rows.items false) × HaveRowsEnded end.rows.items) }
+    ensures agrees { IfOk result (λ end. (end.status ≡ status_of end.rows.items false) × HaveRowsEnded end.rows.items) }
     ensures status { IfOk result (λ end. (end.status ≡ Completed) ⊎ (end.status ≡ Failed)) }
     ensures whole { loop_end ≡ Whole → IfOk result (λ end. end.status ≡ Completed) }
     ensures own { IfErr result (λ e. IsRefusal e → ⊥) }
 {
-    bytes_identify_checkpoints();
     rows_are_progress();
+    slices_have_results();
+    slices_follow_the_rules();
+    failures_are_named();
     let status = status_at(loop_end)?;
     let (results, rows, held) = parts_of(place);
     let faults = faults_of_slice(alloc, job, &rows, &held)?;

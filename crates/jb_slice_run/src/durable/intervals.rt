@@ -1,25 +1,17 @@
 //! Interval after interval, each stored before the next begins.
 
-ghost use Rattle.std.specs.Prelude.{◌≡◌, ◌≤◌, ◌⊎◌, ◌+◌, List, IfErr, IfOk, IsTrue, MatchResult, false, true};
-ghost use Rattle.std.specs.Arc.{arc_value};
+ghost use Rattle.std.specs.Prelude.{◌≡◌, ◌≤◌, ◌+◌, List, None, IfErr, IfOk, IfSome, false, true};
 ghost use Rattle.sqlite.specs.Held.{state};
-ghost use Rattle.sqlite.specs.State.{HasCleanDisk};
-ghost use Rattle.sqlite_disk.specs.Disk.{MoreFaults};
-ghost use Rattle.sqlite_trees.specs.View.{doubt};
-ghost use Rattle.jb_records.specs.PartitionResults.{AreAtTheirEnds};
-ghost use Rattle.jb_slice_file.specs.Files.{HasRunCheckpoints};
 ghost use Rattle.jb_slice_file.specs.CheckpointBytes.{CheckpointBytes};
 ghost use Rattle.jb_slice_file.specs.ListEnd.{count_of};
-ghost use Rattle.jb_slice_file.specs.declared.list_end.ListEnd.{ListEnd as FileEnd};
-ghost use Rattle.jb_slice_run.specs.Causes.{Appending, Explains};
 ghost use Rattle.jb_slice_run.specs.Refusals.{IsRefusal};
-ghost use Rattle.jb_slice_run.specs.declared.resumable_run.Stage.TheVariants.{SomeIntervals};
-ghost use Rattle.jb_slice_run.specs.durable.Work.{HasLoopEnded, IfCut, IfFileMatchesMemory, FileMatchesMemory, LoopEndMatchesRows, IsSeenDone, SeenMatchesRows, IsWhole, SoFar};
-ghost use Rattle.jb_slice_run.specs.declared.durable.loop_end.LoopEnd.TheVariants.{Whole};
+ghost use Rattle.jb_slice_run.specs.durable.Ends.{BreaksOff};
+ghost use Rattle.jb_slice_run.specs.durable.Work.{EndsAs, FileMatchesMemory, IfFileMatchesMemory, IsLater, LoopEndMatchesRows, SeenMatchesRows};
+ghost use Rattle.jb_slice_run.specs.declared.durable.loop_end.LoopEnd.TheVariants.{Intervals, Whole};
 
 use crate::durable::listener::{ProgressListener, progress_of};
 use crate::durable::loop_end::LoopEnd;
-use crate::durable::seen::{Placed, is_whole};
+use crate::durable::seen::Placed;
 use crate::{Pace, ResumableRun, SliceError, SliceJob, Stage};
 use jb_base::PackedList;
 use jb_rows::RowFunction;
@@ -27,7 +19,7 @@ use jb_rules::Row;
 use jb_slice_file::{ListEnd, append};
 use sqlite::{Alter, Connection};
 use std::alloc::Global;
-use std::sync::{Arc, Wait};
+use std::sync::Wait;
 use std::thread::Threads;
 
 /// One checkpoint more, stored in the database; false if the slice was whole.
@@ -37,27 +29,23 @@ fn advance<F: RowFunction + Drop + 'static, R: Threads + Wait + Sync, S: Alter>(
     conn: &mut Connection<S>,
     job: &SliceJob,
     number: u64,
-    function: &Arc<F, Global>,
+    function: &F,
     items: &PackedList,
     place: ResumableRun<F>,
     rounds: u64,
     end: &mut ListEnd,
 ) -> Result<(ResumableRun<F>, bool), SliceError>
-    ensures kept { place.has_failed ≡ false → IfFileMatchesMemory job.now (F.answer (arc_value function.now)) number items.now (state S.Store conn.old) (state S.Store conn.new) (⟦<ResumableRun<F> as Placed>⟧.seen place) end.old (λ w all. IfOk result (λ r. (now : List CheckpointBytes) × FileMatchesMemory w (state S.Store conn.new) (⟦<ResumableRun<F> as Placed>⟧.seen r.0) end.new now × (r.1 ≡ false → IsWhole w now))) }
-    ensures own { IfErr result (λ e. IsRefusal e → ⊥) }
-    ensures cause { IfFileMatchesMemory job.now (F.answer (arc_value function.now)) number items.now (state S.Store conn.old) (state S.Store conn.new) (⟦<ResumableRun<F> as Placed>⟧.seen place) end.old (λ w all. IfErr result (Explains (Appending w (state S.Store conn.old) (state S.Store conn.new)))) }
+    requires well { place.has_failed ≡ false }
+    requires agrees { SeenMatchesRows (⟦<ResumableRun<F> as Placed>⟧.seen place) }
+    ensures later { IsLater (state S.Store conn.old) (state S.Store conn.new) }
+    ensures kept { IfFileMatchesMemory job.now (F.answer function.now) number items.now (state S.Store conn.old) (state S.Store conn.new) (⟦<ResumableRun<F> as Placed>⟧.seen place) end.old (λ w all. IfOk result (λ r. (now : List CheckpointBytes) × FileMatchesMemory w (state S.Store conn.new) (⟦<ResumableRun<F> as Placed>⟧.seen r.0) end.new now)) }
+    ensures agrees { IfOk result (λ r. SeenMatchesRows (⟦<ResumableRun<F> as Placed>⟧.seen r.0)) }
     ensures counted { IfOk result (λ r. r.1 ≡ true → count_of end.new ≡ count_of end.old + 1) }
-    ensures settled { IfOk result (λ r. r.1 ≡ false → r.0.stage ≡ SomeIntervals) }
-    ensures counts { (state S.Store conn.old).faults ≤ (state S.Store conn.new).faults }
-    ensures shut { HasCleanDisk (state S.Store conn.new) → IsTrue (state S.Store conn.old).is_open
-        → IsTrue (state S.Store conn.new).is_open ⊎ MoreFaults (state S.Store conn.old).faults (state S.Store conn.new).faults }
-    ensures whole { IfOk result (λ r. r.1 ≡ false → AreAtTheirEnds (⟦<ResumableRun<F> as Placed>⟧.seen r.0).run.setup.rows) }
-    ensures agrees { SeenMatchesRows (⟦<ResumableRun<F> as Placed>⟧.seen place) → IfOk result (λ r. SeenMatchesRows (⟦<ResumableRun<F> as Placed>⟧.seen r.0)) }
-    ensures again { IsSeenDone (⟦<ResumableRun<F> as Placed>⟧.seen place) → MatchResult result (λ r. r.1 ≡ false) (λ e. ⊥) × (conn.new ≡ conn.old) }
-    ensures clean { doubt (state S.Store conn.old).is_clean ≤ doubt (state S.Store conn.new).is_clean }
-    ensures crash { IfFileMatchesMemory job.now (F.answer (arc_value function.now)) number items.now (state S.Store conn.old) (state S.Store conn.new) (⟦<ResumableRun<F> as Placed>⟧.seen place) end.old (λ w all. (db : _) → (state S.Store conn.new).may_leave db → HasRunCheckpoints (SoFar w) db) }
+    ensures whole { IfOk result (λ r. r.1 ≡ false → EndsAs (⟦<ResumableRun<F> as Placed>⟧.seen r.0) Whole) }
+    ensures own { IfErr result (λ e. IsRefusal e → ⊥) }
+    ensures broken { IfFileMatchesMemory job.now (F.answer function.now) number items.now (state S.Store conn.old) (state S.Store conn.new) (⟦<ResumableRun<F> as Placed>⟧.seen place) end.old (λ w all. IfErr result (BreaksOff job.now w (state S.Store conn.old) (state S.Store conn.new))) }
 {
-    let (place, next) = place.next_checkpoint(rt, alloc, job, number, &**function, items, rounds)?;
+    let (place, next) = place.next_checkpoint(rt, alloc, job, number, function, items, rounds)?;
     let Some(next) = next else {
         return Ok((place, false));
     };
@@ -76,21 +64,26 @@ fn next_factor(factor: u64, before: u64, rows: &[Row]) -> u64 {
     }
 }
 
-/// Reports to the listener how far the slice is by its last checkpoint. True if the listener stops it there, and it isn't whole.
-fn is_stopped<F: RowFunction + Drop, O: ProgressListener>(
+/// Reports to the listener how far the slice is by its last checkpoint, if an interval is stored. Then it says how the intervals end here: the slice
+/// has failed, or the listener stops it and it isn't whole. `None` if they continue.
+fn end_here<F: RowFunction + Drop, O: ProgressListener>(
     place: &ResumableRun<F>,
     items: usize,
     listener: &mut O,
-) -> bool
-    ensures { IsTrue result → IsSeenDone (⟦<ResumableRun<F> as Placed>⟧.seen place.now) → ⊥ }
+) -> Option<LoopEnd>
+    ensures ends { IfSome result (EndsAs (⟦<ResumableRun<F> as Placed>⟧.seen place.now)) }
+    ensures uncut { IfSome result (λ loop_end. loop_end ≡ Intervals → ⊥) }
+    ensures well { result ≡ None → place.now.has_failed ≡ false }
 {
-    if !matches!(place.stage, Stage::SomeIntervals) {
-        return false;
+    let stops = matches!(place.stage, Stage::SomeIntervals)
+        && !listener.on_progress(progress_of(&place.rows, items));
+    if place.has_failed {
+        return Some(LoopEnd::Failed);
     }
-    if listener.on_progress(progress_of(&place.rows, items)) {
-        return false;
+    if stops && !place.is_whole() {
+        return Some(LoopEnd::Stopped);
     }
-    !is_whole(place)
+    None
 }
 
 /// Adds at most `intervals` checkpoints. Each is stored before the next interval begins. It ends earlier in three cases: the slice is whole; each
@@ -108,40 +101,32 @@ pub(crate) fn run<
     conn: &mut Connection<S>,
     job: &SliceJob,
     number: u64,
-    function: &Arc<F, Global>,
+    function: &F,
     items: &PackedList,
     place: ResumableRun<F>,
-    end: ListEnd,
+    end: &mut ListEnd,
     intervals: u32,
     pace: &mut P,
     listener: &mut O,
 ) -> Result<(ResumableRun<F>, LoopEnd), SliceError>
-    ensures kept { IfFileMatchesMemory job.now (F.answer (arc_value function.now)) number items.now (state S.Store conn.old) (state S.Store conn.new) (⟦<ResumableRun<F> as Placed>⟧.seen place) end (λ w all. IfOk result (λ r. (now : List CheckpointBytes) × (last : FileEnd) × HasLoopEnded w (state S.Store conn.new) (⟦<ResumableRun<F> as Placed>⟧.seen r.0) r.1 last now × IfCut r.1 (count_of last ≡ count_of end + intervals))) }
+    requires { SeenMatchesRows (⟦<ResumableRun<F> as Placed>⟧.seen place) }
+    ensures later { IsLater (state S.Store conn.old) (state S.Store conn.new) }
+    ensures kept { IfFileMatchesMemory job.now (F.answer function.now) number items.now (state S.Store conn.old) (state S.Store conn.new) (⟦<ResumableRun<F> as Placed>⟧.seen place) end.old (λ w all. IfOk result (λ r. (now : List CheckpointBytes) × FileMatchesMemory w (state S.Store conn.new) (⟦<ResumableRun<F> as Placed>⟧.seen r.0) end.new now)) }
+    ensures agrees { IfOk result (λ r. LoopEndMatchesRows (⟦<ResumableRun<F> as Placed>⟧.seen r.0) r.1) }
+    ensures cut { IfOk result (λ r. r.1 ≡ Intervals → intervals ≤ count_of end.new) }
     ensures own { IfErr result (λ e. IsRefusal e → ⊥) }
-    ensures cause { IfFileMatchesMemory job.now (F.answer (arc_value function.now)) number items.now (state S.Store conn.old) (state S.Store conn.new) (⟦<ResumableRun<F> as Placed>⟧.seen place) end (λ w all. IfErr result (Explains (Appending w (state S.Store conn.old) (state S.Store conn.new)))) }
-    ensures counts { (state S.Store conn.old).faults ≤ (state S.Store conn.new).faults }
-    ensures shut { HasCleanDisk (state S.Store conn.new) → IsTrue (state S.Store conn.old).is_open
-        → IsTrue (state S.Store conn.new).is_open ⊎ MoreFaults (state S.Store conn.old).faults (state S.Store conn.new).faults }
-    ensures agrees { SeenMatchesRows (⟦<ResumableRun<F> as Placed>⟧.seen place) → IfOk result (λ r. LoopEndMatchesRows (⟦<ResumableRun<F> as Placed>⟧.seen r.0) r.1) }
-    ensures again { IsSeenDone (⟦<ResumableRun<F> as Placed>⟧.seen place) → 1 ≤ intervals → MatchResult result (λ r. r.1 ≡ Whole) (λ e. ⊥) × (conn.new ≡ conn.old) }
-    ensures clean { doubt (state S.Store conn.old).is_clean ≤ doubt (state S.Store conn.new).is_clean }
-    ensures crash { IfFileMatchesMemory job.now (F.answer (arc_value function.now)) number items.now (state S.Store conn.old) (state S.Store conn.new) (⟦<ResumableRun<F> as Placed>⟧.seen place) end (λ w all. (db : _) → (state S.Store conn.new).may_leave db → HasRunCheckpoints (SoFar w) db) }
+    ensures broken { IfFileMatchesMemory job.now (F.answer function.now) number items.now (state S.Store conn.old) (state S.Store conn.new) (⟦<ResumableRun<F> as Placed>⟧.seen place) end.old (λ w all. IfErr result (BreaksOff job.now w (state S.Store conn.old) (state S.Store conn.new))) }
 {
     let mut place = place;
-    let mut end = end;
     let mut factor: u64 = 1;
     'intervals: for _ in 0..intervals {
-        let stops = is_stopped(&place, items.len(), listener);
-        if place.has_failed {
-            return Ok((place, LoopEnd::Failed));
-        }
-        if stops {
-            return Ok((place, LoopEnd::Stopped));
+        if let Some(loop_end) = end_here(&place, items.len(), listener) {
+            return Ok((place, loop_end));
         }
         let rounds = pace.begin().saturating_mul(factor);
         let done = progress_of(&place.rows, items.len()).done;
         let (next, more) = advance(
-            rt, alloc, conn, job, number, function, items, place, rounds, &mut end,
+            rt, alloc, conn, job, number, function, items, place, rounds, end,
         )?;
         pace.end();
         if !more {

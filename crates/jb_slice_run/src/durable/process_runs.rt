@@ -3,30 +3,30 @@
 ghost use Rattle.std.specs.Prelude.{◌≡◌, ◌≤◌, List, length, IfOk, IfSome, IsTrue};
 ghost use Rattle.std.specs.Arc.{arc_value};
 ghost use Rattle.sqlite.specs.Files.{file_state};
-ghost use Rattle.sqlite.specs.Held.{state};
 ghost use Rattle.sqlite.specs.State.{HasCleanDisk};
 ghost use Rattle.sqlite_trees.specs.View.{doubt};
 ghost use Rattle.jb_slice_file.specs.CheckpointBytes.{CheckpointBytes};
+ghost use Rattle.jb_slice_file.specs.Connections.{IsJustOpened};
 ghost use Rattle.jb_slice_file.specs.Files.{HoldsRunOrNone, HasRunCheckpoints, Leaves};
 ghost use Rattle.jb_slice_file.specs.ProcessRuns.{IsProcessRunOver};
 ghost use Rattle.jb_slice_file.specs.DiskHistory.{IsHistoryOf, IsSame};
+ghost use Rattle.jb_slice_file.specs.Rows.{Has, ShowsList};
 ghost use Rattle.jb_slices.specs.Slice.{Functions};
 ghost use Rattle.jb_slice_run.specs.Jobs.{stamps_in};
 ghost use Rattle.jb_slice_run.specs.Step.{AreStampsOf};
 ghost use Rattle.jb_slice_run.specs.durable.Ends.{KeepsAll};
-ghost use Rattle.jb_slice_run.specs.durable.Work.{IfHad, SoFar, slice_input_of};
+ghost use Rattle.jb_slice_run.specs.durable.Work.{IfResumed, SoFar, slice_input_of};
 ghost use Rattle.jb_slice_run.specs.declared.durable.loop_end.LoopEnd.TheVariants.{Whole};
 
-use crate::durable::intervals::run;
 use crate::durable::listener::ProgressListener;
 use crate::durable::loop_end::LoopEnd;
-use crate::durable::resumed::resumed;
-use crate::{Pace, SliceError, SliceJob, bytes_identify_checkpoints};
+use crate::durable::resume_and_run::resume_and_run;
+use crate::{Pace, SliceError, SliceJob, rows_are_progress};
 use jb_base::PackedList;
 use jb_rows::RowFunction;
 use jb_slice_file::{DiskHistory, ProcessRun, closed, open_own, open_recording, stop_recording};
 use jb_slices::slices_have_results;
-use sqlite::{Alter, Connection, FileStore, Options};
+use sqlite::{Connection, FileStore, Options};
 use sqlite_disk::{Crash, Disk, Files};
 use std::alloc::Global;
 use std::marker::Brand;
@@ -54,39 +54,7 @@ fn is_whole(loop_end: LoopEnd) -> bool
     matches!(loop_end, LoopEnd::Whole)
 }
 
-/// Resumes the slice and adds at most `intervals` checkpoints.
-fn resume_and_run<
-    F: RowFunction + Drop + 'static,
-    P: Pace,
-    O: ProgressListener,
-    R: Threads + Wait + Sync,
-    S: Alter,
->(
-    rt: &R,
-    alloc: Global,
-    conn: &mut Connection<S>,
-    job: &SliceJob,
-    number: u64,
-    function: &Arc<F, Global>,
-    items: &PackedList,
-    intervals: u32,
-    pace: &mut P,
-    listener: &mut O,
-) -> Result<bool, SliceError>
-    ensures done { IfHad job.now (F.answer (arc_value function.now)) number items.now (state S.Store conn.old) (state S.Store conn.new) (λ w all. IfOk result (λ done. IsTrue done → (now : List CheckpointBytes) × KeepsAll w (state S.Store conn.new) now)) }
-    ensures clean { doubt (state S.Store conn.old).is_clean ≤ doubt (state S.Store conn.new).is_clean }
-    ensures crash { IfHad job.now (F.answer (arc_value function.now)) number items.now (state S.Store conn.old) (state S.Store conn.new) (λ w all. (db : _) → (state S.Store conn.new).may_leave db → HasRunCheckpoints (SoFar w) db) }
-{
-    bytes_identify_checkpoints();
-    slices_have_results();
-    let (place, end) = resumed(alloc, conn, job, number, function, items)?;
-    let (_, loop_end) = run(
-        rt, alloc, conn, job, number, function, items, place, end, intervals, pace, listener,
-    )?;
-    Ok(is_whole(loop_end))
-}
-
-/// The same over files. Only here a connection over files is passed to `resume_and_run`.
+/// Resumes the slice and adds at most `intervals` checkpoints; true if it is whole. Only here a connection over files is passed to `resume_and_run`.
 fn run_over_files<
     F: RowFunction + Drop + 'static,
     P: Pace,
@@ -105,13 +73,17 @@ fn run_over_files<
     pace: &mut P,
     listener: &mut O,
 ) -> Result<bool, SliceError>
-    ensures done { IfHad job.now (F.answer (arc_value function.now)) number items.now (file_state conn.old) (file_state conn.new) (λ w all. IfOk result (λ done. IsTrue done → (now : List CheckpointBytes) × KeepsAll w (file_state conn.new) now)) }
+    ensures shown { IsJustOpened (file_state conn.old) → (all : List CheckpointBytes) → Has (file_state conn.old).now.trees all → ShowsList (file_state conn.old).now all }
+    ensures done { IfResumed job.now (F.answer (arc_value function.now)) number items.now (file_state conn.old) (file_state conn.new) (λ w all. IfOk result (λ done. IsTrue done → (now : List CheckpointBytes) × KeepsAll w (file_state conn.new) now)) }
     ensures clean { doubt (file_state conn.old).is_clean ≤ doubt (file_state conn.new).is_clean }
-    ensures crash { IfHad job.now (F.answer (arc_value function.now)) number items.now (file_state conn.old) (file_state conn.new) (λ w all. (db : _) → (file_state conn.new).may_leave db → HasRunCheckpoints (SoFar w) db) }
+    ensures crash { IfResumed job.now (F.answer (arc_value function.now)) number items.now (file_state conn.old) (file_state conn.new) (λ w all. (db : _) → (file_state conn.new).may_leave db → HasRunCheckpoints (SoFar w) db) }
 {
-    resume_and_run(
+    rows_are_progress();
+    slices_have_results();
+    let (_, loop_end) = resume_and_run(
         rt, alloc, conn, job, number, function, items, intervals, pace, listener,
-    )
+    )?;
+    Ok(is_whole(loop_end))
 }
 
 /// A process run over disks that know what they were as it began.

@@ -23,15 +23,13 @@ ghost use Rattle.jb_slice_run.specs.durable.Ends.{AreFailuresOf, HasEnded};
 ghost use Rattle.jb_slice_run.specs.durable.Work.{IfResumed, IfShown, IsWhole, SoFar};
 
 use crate::durable::end::{SliceEnd, ended};
-use crate::durable::intervals::run;
 use crate::durable::listener::ProgressListener;
 use crate::durable::loop_end::LoopEnd;
+use crate::durable::resume_and_run::resume_and_run;
 use crate::durable::resumed::resumed;
-use crate::durable::seen::is_whole;
-use crate::{Pace, SliceError, SliceJob, bytes_identify_checkpoints, rows_are_progress};
+use crate::{Pace, SliceError, SliceJob};
 use jb_base::PackedList;
 use jb_rows::RowFunction;
-use jb_slices::{failures_are_named, slices_follow_the_rules, slices_have_results};
 use sqlite::{Alter, Connection};
 use std::alloc::Global;
 use std::sync::{Arc, Wait};
@@ -98,14 +96,9 @@ pub fn run_slice<
     // At any moment a crash leaves the checkpoints of the slice so far.
     ensures crash { IfResumed job.now (F.answer (arc_value function.now)) number items.now (state S.Store conn.old) (state S.Store conn.new) (λ w all. (db : _) → (state S.Store conn.new).may_leave db → HasRunCheckpoints (SoFar w) db) }
 {
-    bytes_identify_checkpoints();
-    slices_have_results();
-    slices_follow_the_rules();
-    failures_are_named();
     let mut pace = pace;
     let mut listener = listener;
-    let (place, end) = resumed(alloc, conn, job, number, function, items)?;
-    let (place, loop_end) = run(
+    let (place, loop_end) = resume_and_run(
         rt,
         alloc,
         conn,
@@ -113,8 +106,6 @@ pub fn run_slice<
         number,
         function,
         items,
-        place,
-        end,
         u32::MAX,
         &mut pace,
         &mut listener,
@@ -150,12 +141,8 @@ pub fn collect_slice<F: RowFunction + Drop, S: Alter>(
     // At any moment a crash leaves the checkpoints that the database had.
     ensures crash { IfShown (state S.Store conn.old) (state S.Store conn.new) (λ all. (db : _) → (state S.Store conn.new).may_leave db → Has db all) }
 {
-    bytes_identify_checkpoints();
-    rows_are_progress();
-    slices_have_results();
-    slices_follow_the_rules();
     let (place, _) = resumed(alloc, conn, job, number, function, items)?;
-    if !is_whole(&place) {
+    if !place.is_whole() {
         return Ok(None);
     }
     let end = ended(alloc, job, place, LoopEnd::Whole)?;

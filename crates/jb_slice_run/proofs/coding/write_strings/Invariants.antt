@@ -1,5 +1,4 @@
-use Rattle.std.proofs.Common.{◌≡◌, ◌++◌, take}
-use Rattle.std.specs.List.{AllByRecursion}
+use Rattle.std.{proofs.Common.{◌≡◌, ◌++◌, take}, specs.List.{AllByRecursion}}
 use Rattle.jb_slice_run.specs.Coding.{coded_strings, IsShort}
 use Rattle.jb_slice_run.proofs.coding.write_strings.Given as goal
 

@@ -1,13 +1,15 @@
-use Rattle.std.proofs.Common.{◌≡◌, ◌==◌, length, inr, refl, true≢false, sym, ap, ◌∙◌, arith}
-use Rattle.jb_slice_file.proofs.Handed.{handed_on}
-use Rattle.jb_slice_run.proofs.{Decoded.all_read, Decoded.no_other_list, Why.why_not}
+use Rattle.std.proofs.{Common.{[], ◌≡◌, ◌==◌, length, inr, refl, true≢false, sym, ap, ◌∙◌, arith}, lemmas.List.{append-nil}}
+use Rattle.jb_slice_run.{specs.Coding.{IsCodable, coded, coded_list}, proofs.Codings.{all_read, another, list_parted}, proofs.Why.{why_on}}
 use Rattle.jb_slice_run.proofs.decoding.read_lists.Goals as goal
 
 pub returns-in_err-rest-clause-why : goal.returns-in_err-rest-clause-why
 returns-in_err-rest-clause-why c =
-    let e = c.in_err-rest.field-0.0 in
-    let none = no_other_list c.loop.lists.items c.args.bytes.now c.loop.rest.now c.loop.counter c.args.count c.loop.invariant c.loop-test.true in
-    handed_on c.from_residual.result e _ c.from_residual.ensures.1 (why_not e none c.in_err-rest.ensures.why)
+    let so = c.loop.invariant in
+    why_on c.from_residual.result c.in_err-rest.field-0.0 c.from_residual.ensures.1
+    (λ none others of.
+    another coded_list (λ l. IsCodable l) list_parted c.loop.lists.items others c.loop.rest.now [] so.fit of.codable (omega (arith, so.number, c.loop-test.true, of.number))
+    (sym so.left ∙ of.coding ∙ sym (append-nil (coded others))) none)
+    c.in_err-rest.ensures.why
 
 pub returns-then-not-is_empty-clause-why : goal.returns-then-not-is_empty-clause-why
 returns-then-not-is_empty-clause-why c =

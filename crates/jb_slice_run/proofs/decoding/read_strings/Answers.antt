@@ -1,11 +1,15 @@
-use Rattle.std.proofs.Common.{◌≡◌, inr, refl, subst, arith}
-use Rattle.jb_slice_run.specs.Coding.{AreStringsRead}
-use Rattle.jb_slice_run.proofs.Decoded.{no_other_string}
+use Rattle.std.proofs.Common.{◌≡◌, ◌∙◌, inr, refl, subst, sym, arith}
+use Rattle.jb_slice_run.{specs.Coding.{AreStringsRead, IsShort, coded_string}, proofs.Codings.{another, string_parted}}
 use Rattle.jb_slice_run.proofs.decoding.read_strings.Goals as goal
 
 pub returns-in_default-clause-why : goal.returns-in_default-clause-why
 returns-in_default-clause-why c =
-    inr (refl, no_other_string c.loop.list c.args.bytes.now c.loop.rest.now c.loop.counter c.args.count c.loop.invariant c.loop-test.true (c.in_default.ensures.none refl))
+    let so = c.loop.invariant in
+    inr (
+      refl,
+      λ strings later codable number is. another coded_string (λ s. IsShort s) string_parted c.loop.list strings c.loop.rest.now later so.fit codable.short
+          (omega (arith, so.number, c.loop-test.true, number)) (sym so.left ∙ is) c.in_default.ensures,
+    )
 
 pub returns-clause-read : goal.returns-clause-read
 returns-clause-read c =

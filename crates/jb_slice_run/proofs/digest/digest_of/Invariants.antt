@@ -1,5 +1,4 @@
-use Rattle.std.proofs.Common.{◌≡◌, ◌++◌, List, ℕ, take}
-use Rattle.std.specs.Prelude.{flat_map}
+use Rattle.std.{proofs.Common.{◌≡◌, ◌++◌, List, ℕ, take}, specs.Prelude.{flat_map}}
 use Rattle.sha2.specs.Hashers.{Holds256}
 use Rattle.jb_slices.specs.Checkpoint.{coded_item}
 use Rattle.jb_slice_run.proofs.digest.digest_of.Given as goal

@@ -1,6 +1,6 @@
 use Rattle.std.proofs.Common.{◌≡◌, ◌+◌}
-use Rattle.jb_records.specs.{Function.steady, Skips.skips_between}
-use Rattle.jb_slice_run.specs.{Held.faults_in, Rows.faults_at}
+use Rattle.jb_records.specs.{Function.{steady}, Skips.{skips_between}}
+use Rattle.jb_slice_run.specs.{Held.{faults_in}, Rows.{faults_at}}
 use Rattle.jb_slice_run.proofs.faults.faults_between.Given as goal
 
 -- those of the items so far

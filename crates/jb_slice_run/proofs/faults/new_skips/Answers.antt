@@ -1,6 +1,5 @@
 use Rattle.std.proofs.Common.{ap, option_map, ◌∙◌}
-use Rattle.jb_slice_run.specs.Held.{faults_in}
-use Rattle.jb_slice_run.proofs.Faulted.{none-new}
+use Rattle.jb_slice_run.{specs.Held.{faults_in}, proofs.Faulted.{none-new}}
 use Rattle.jb_slice_run.proofs.faults.new_skips.Goals as goal
 
 pub returns-then-row-skips_before : goal.returns-then-row-skips_before

@@ -1,5 +1,5 @@
 use Rattle.std.proofs.Common.{◌≡◌, ◌∷◌, List, ℕ, length, map, take}
-use Rattle.jb_slice_run.specs.{Held.new_output_grown, Held.new_output_in, Strings.AreOutputsSmall, Strings.NewOutput, Strings.new_output_lists}
+use Rattle.jb_slice_run.specs.{Held.{new_output_grown, new_output_in}, Strings.{AreOutputsSmall, NewOutput, new_output_lists}}
 use Rattle.jb_slice_run.proofs.intervals.grow_all.Given as goal
 
 -- the partitions so far have grown

@@ -1,59 +1,42 @@
-use Rattle.std.proofs.Common.{◌≡◌, ◌≤◌, length, map, replicate, take, take_all, refl, rules, sym, ap, subst, ◌∙◌}
-use Rattle.std.proofs.lemmas.List.{length-map, length-replicate}
-use Rattle.jb_slice_file.proofs.Handed.{handed_on}
-use Rattle.jb_slices.specs.Checkpoint.{GoesOn}
-use Rattle.jb_slice_run.specs.Held.{limits_in, limits_led, new_output_grown, new_output_in, new_output_led, no_new_output}
-use Rattle.jb_slice_run.specs.Strings.{all_new_output}
-use Rattle.jb_slice_run.proofs.{Bytes.written_back, Grown.kept_length, Grown.led_more, Grown.limits_more, Grown.nth_interval, Why.why_not}
+use Rattle.jb_slice_run.{specs.SliceBytes.{IsStoredAs}, proofs.RowsGrown.{as-many}, specs.Held.{limits_in, limits_led, new_output_grown, new_output_in, new_output_led, no_new_output}, specs.Strings.{all_new_output}, proofs.Grown.{nth_interval}, proofs.Why.{why_on}}
+use Rattle.jb_slice_file.specs.CheckpointBytes.{checkpoint_bytes}
+use Rattle.std.proofs.{Common.{◌≡◌, ◌++◌, length, map, suc, take, drop, add-one, refl, arith, rules, sym, ap, ◌∙◌}, Math.Seq.{take-append_seam}, lemmas.List.{drop_all, length-map, length-replicate}}
 use Rattle.jb_slice_run.proofs.intervals.read_slice.Goals as goal
 
 pub loop-checkpoint-init : goal.loop-checkpoint-init
 loop-checkpoint-init c = record {
   number = sym (length-map c.in_ok-partitions.partitions.items new_output_in) ∙ ap length c.in_ok-partitions.ensures ∙ length-replicate c.args.count no_new_output;
-  limits = λ cs so all. refl;
-  new_output = λ cs so all. c.in_ok-partitions.ensures;
+  read = λ cs so all. (refl, ap (λ ns. new_output_led ns cs) c.in_ok-partitions.ensures);
 }
-
-pub read_interval-requires : goal.read_interval-requires
-read_interval-requires c = ap length c.deref_mut.ensures.value ∙ c.loop-checkpoint.invariant.number
 
 pub loop-checkpoint-preserved : goal.loop-checkpoint-preserved
 loop-checkpoint-preserved c =
-    let later = c.args.later.now in
     let i = c.loop-checkpoint.checkpoint-index in
-    let item = c.checkpoint-item.result in
     let new = c.read_interval.new.partitions in
     let number : c.loop-checkpoint.partitions.len ≡ length new = search rules in
-    let back = written_back new c.loop-checkpoint.partitions.items c.loop-checkpoint.partitions.len number in
+    let back = ap (λ k. take k (new ++ drop (length new) c.loop-checkpoint.partitions.items)) number ∙ take-append_seam new _ in
     record {
       number = ap length back ∙ c.in_ok-last.ensures.number;
-      limits = λ cs so all.
-          let at = nth_interval c.args.count cs later i item so all c.loop-checkpoint-test.true c.checkpoint-item.is in
-          (c.in_ok-last.ensures.read at.0 at.1 at.2).0
-          ∙ sym (ap (limits_led (limits_in c.args.limits)) at.3 ∙ limits_more (limits_in c.args.limits) (take i cs) (GoesOn at.0));
-      new_output = λ cs so all.
-          let at = nth_interval c.args.count cs later i item so all c.loop-checkpoint-test.true c.checkpoint-item.is in
-          let none = replicate c.args.count no_new_output in
-          ap (map new_output_in) back ∙ (c.in_ok-last.ensures.read at.0 at.1 at.2).1
-          ∙ ap (λ ns. new_output_grown ns (all_new_output at.0.partitions)) (ap (map new_output_in) c.deref_mut.ensures.value ∙ c.loop-checkpoint.invariant.new_output cs so all)
-          ∙ sym (ap (new_output_led none) at.3 ∙ led_more none (take i cs) (GoesOn at.0));
+      read = λ cs so all.
+          let at = nth_interval c.args.count cs c.args.later.now i c.checkpoint-item.result so all c.loop-checkpoint-test.true c.checkpoint-item.is in
+          let last = c.in_ok-last.ensures.read at.0 at.1 at.2 in
+          let before = c.loop-checkpoint.invariant.read cs so all in
+          let grown = ap (map new_output_in) back ∙ last.1 ∙ ap (λ ns. new_output_grown (map new_output_in ns) (all_new_output at.0.partitions)) c.deref_mut.ensures.value in
+          rw add-one (
+            ap (λ l. limits_led l (drop (suc i) cs)) last.0 ∙ sym (ap (limits_led (limits_in c.loop-checkpoint.last)) at.3) ∙ before.0,
+            ap (λ ns. new_output_led ns (drop (suc i) cs)) grown ∙ sym (ap (new_output_led (map new_output_in c.loop-checkpoint.partitions.items)) at.3) ∙ before.1,
+          );
     }
 
 pub returns-in_err-last-clause-why : goal.returns-in_err-last-clause-why
 returns-in_err-last-clause-why c =
-    let e = c.in_err-last.field-0.0 in
-    handed_on c.from_residual-in_err-last.result e _ c.from_residual-in_err-last.ensures.1
-    (why_not e
+    why_on c.from_residual-in_err-last.result c.in_err-last.field-0.0 c.from_residual-in_err-last.ensures.1
     (λ none cs so all.
     let at = nth_interval c.args.count cs c.args.later.now c.loop-checkpoint.checkpoint-index c.checkpoint-item.result so all c.loop-checkpoint-test.true c.checkpoint-item.is in
     none at.0 at.1 at.2)
-    c.in_err-last.ensures.why)
+    c.in_err-last.ensures.why
 
 pub returns-clause-read : goal.returns-clause-read
 returns-clause-read c cs so all =
-    let i = c.loop-checkpoint.checkpoint-index in
-    let past : length cs ≤ i = subst (λ n. n ≤ i) (sym (kept_length cs c.args.later.now so)) c.loop-checkpoint-test.false in
-    record {
-      limits = c.loop-checkpoint.invariant.limits cs so all ∙ ap (limits_led (limits_in c.args.limits)) (take_all i cs past);
-      new_output = c.loop-checkpoint.invariant.new_output cs so all ∙ ap (new_output_led (replicate c.args.count no_new_output)) (take_all i cs past);
-    }
+    let at = rw (drop_all c.loop-checkpoint.checkpoint-index cs (omega (arith, as-many IsStoredAs cs (map checkpoint_bytes c.args.later.now) so, length-map c.args.later.now checkpoint_bytes, c.loop-checkpoint-test.false))) at (c.loop-checkpoint.invariant.read cs so all) in
+    record { limits = at.0; new_output = at.1 }

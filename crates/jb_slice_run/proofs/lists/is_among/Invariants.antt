@@ -1,5 +1,4 @@
-use Rattle.std.proofs.Common.{map, take}
-use Rattle.std.specs.List.{Contains}
+use Rattle.std.{proofs.Common.{map, take}, specs.List.{Contains}}
 use Rattle.jb_slice_run.proofs.lists.is_among.Given as goal
 
 -- it is none of those so far

@@ -1,5 +1,5 @@
 use Rattle.std.proofs.Common.{◌≡◌, map, take}
-use Rattle.jb_slice_run.specs.{Held.faults_in, Named.faults_held, Named.skips_by}
+use Rattle.jb_slice_run.specs.{Held.{faults_in}, Named.{faults_held, skips_by}}
 use Rattle.jb_slice_run.proofs.named.skips_of.Given as goal
 
 -- the faults of the partitions so far

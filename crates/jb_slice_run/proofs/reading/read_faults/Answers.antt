@@ -1,32 +1,31 @@
-use Rattle.std.proofs.Common.{◌≡◌, ◌<◌, ◌≤◌, ◌∷◌, ◌++◌, [], inr, refl, rules, sym, ap, subst, ◌∙◌, append_assoc, take_all}
-use Rattle.std.proofs.lemmas.List.{append-nil, map-append}
+use Rattle.std.proofs.{Common.{◌≡◌, ◌++◌, ◌∷◌, [], length, take, take_all, get_or, refl, inr, sym, ap, ◌∙◌, append_assoc, rules, arith}, lemmas.List.{append-nil, length-map, map_push, take_more}}
+use Rattle.sqlite_trees.proofs.ListLemmas.{all-get_or}
 use Rattle.jb_slices.specs.Function.{Fault}
-use Rattle.jb_slice_run.specs.{Held.fault_in, Held.faults_in, Strings.IsSmall}
-use Rattle.jb_slice_run.proofs.{Bytes.fault_more, Bytes.no_faults, Each.each_put, Once.faults_once}
+use Rattle.jb_slice_run.{specs.Held.{fault_in, faults_in}, specs.Strings.{IsSmall, fault_string}, proofs.Once.{fault_there, no_fault, fault_once}}
 use Rattle.jb_slice_run.proofs.reading.read_faults.Goals as goal
 
 pub loop-index-init : goal.loop-index-init
-loop-index-init c = ([], tt, refl, sym (append-nil _))
+loop-index-init c = λ new small is. sym (append-nil _)
 
 pub returns-in_default-clause-why : goal.returns-in_default-clause-why
 returns-in_default-clause-why c =
-    let within = subst (λ n. c.loop-index.index < n) c.len-index-end.ensures c.loop-index-test.true in
-    inr (refl, no_faults c.args.list.now c.loop-index.index c.at.result.now within c.at.ensures c.in_default.ensures)
+    inr (refl, λ new is. let at = fault_there new c.args.list.now is c.loop-index.index (omega (arith, c.len-index-end.ensures, c.loop-index-test.true)) in c.in_default.ensures (get_or new c.loop-index.index no_fault) (c.at.ensures ∙ at.1))
 
 pub loop-index-preserved : goal.loop-index-preserved
-loop-index-preserved c =
-    let within = subst (λ n. c.loop-index.index < n) c.len-index-end.ensures c.loop-index-test.true in
-    let so = c.loop-index.invariant in
+loop-index-preserved c = λ new small is.
+    let i = c.loop-index.index in
+    let before = faults_in c.args.faults.now.items in
     let fault = fault_in c.in-Some.fault in
-    let put : c.push.new.self.items ≡ c.loop-index.faults.items ++ c.in-Some.fault ∷ [] = search rules in (
-      so.0 ++ fault ∷ [],
-      each_put (λ (f : Fault). IsSmall f.number) so.0 fault so.1 c.in-Some.ensures.1,
-      fault_more c.args.list.now c.loop-index.index c.at.result.now within c.at.ensures so.0 so.2 fault c.in-Some.ensures.0,
-      ap faults_in put ∙ map-append fault_in c.loop-index.faults.items (c.in-Some.fault ∷ []) ∙ ap (λ fs. fs ++ fault ∷ []) so.3 ∙ append_assoc (faults_in c.args.faults.now.items) so.0 (fault ∷ []),
-    )
+    let at = fault_there new c.args.list.now is i (omega (arith, c.len-index-end.ensures, c.loop-index-test.true)) in
+    let one = fault_once fault (get_or new i no_fault) c.in-Some.ensures.1 (all-get_or (λ (f : Fault). IsSmall f.number) new i no_fault small at.0) (sym c.in-Some.ensures.0 ∙ c.at.ensures ∙ at.1) in
+    let put : c.push.new.self.items ≡ c.loop-index.faults.items ++ c.in-Some.fault ∷ [] = search rules in
+    let mapped = map_push fault_in c.loop-index.faults.items c.in-Some.fault in
+    let parts = append_assoc before (take i new) (fault ∷ []) in
+    let more = take_more new i no_fault at.0 in
+    let so = c.loop-index.invariant new small is in
+    cc
 
 pub returns-clause-read : goal.returns-clause-read
 returns-clause-read c new small is =
-    let so = c.loop-index.invariant in
-    let past = subst (λ n. n ≤ c.loop-index.index) c.len-index-end.ensures c.loop-index-test.false in
-    so.3 ∙ ap (λ fs. faults_in c.args.faults.now.items ++ fs) (faults_once so.0 new so.1 small (sym so.2 ∙ take_all c.loop-index.index c.args.list.now past ∙ is))
+    c.loop-index.invariant new small is
+    ∙ ap (λ fs. faults_in c.args.faults.now.items ++ fs) (take_all c.loop-index.index new (omega (arith, ap length is, length-map new fault_string, c.len-index-end.ensures, c.loop-index-test.false)))

@@ -1,23 +1,12 @@
-use Rattle.std.proofs.Common.{◌≡◌, ◌==◌, [], length, rules, sym, ap, ◌∙◌, true≢false, arith}
-use Rattle.jb_slice_run.proofs.Bytes.{no_bytes, no_number, number_alone, number_read}
+use Rattle.std.{proofs.Common.{length, sym, ap, ◌∙◌, rules}, proofs.lemmas.Nat.{le_bytes_8}, specs.Int.{w64, from_le_bytes}}
+use Rattle.jb_slice_run.{specs.Strings.{number_string}, proofs.Once.{number_length}}
 use Rattle.jb_slice_run.proofs.reading.read_number.Goals as goal
 
-pub returns-in_default : goal.returns-in_default
-returns-in_default c = let few = c.in_default.ensures.cases in no_number c.args.bytes.now (λ eight. omega (arith, eight, few))
+pub returns-in-Err : goal.returns-in-Err
+returns-in-Err c n is = c.in-Err.ensures.1 (ap length is ∙ number_length n)
 
-pub returns-then-not-is_empty : goal.returns-then-not-is_empty
-returns-then-not-is_empty c =
-    let parts = c.in-Some.ensures.cases in
-    no_number c.args.bytes.now
-    (λ eight.
-    let none : length c.in-Some.rest.now ≡ 0 = omega (arith, parts.2, eight) in
-    true≢false (sym (c.if-not-is_empty.ensures ∙ ap (λ n. n == 0) none)))
-
-pub returns : goal.returns
-returns c =
-    let parts = c.in-Some.ensures.cases in
-    let none : c.in-Some.rest.now ≡ [] = no_bytes c.in-Some.rest.now c.if-not-is_empty.ensures in (
-      number_alone c.args.bytes.now c.in-Some.rest.now c.from_le_bytes.result
-          (number_read c.args.bytes.now c.in-Some.front.now c.in-Some.rest.now c.from_le_bytes.result (λ i. search rules) parts.0 parts.1 parts.2 c.from_le_bytes.ensures) none,
-      c.from_le_bytes.type_inv,
-    )
+pub returns-in-Ok : goal.returns-in-Ok
+unfolding number_string
+returns-in-Ok c =
+    let whole = c.in-Ok.ensures.1 in
+    (sym (le_bytes_8 c.args.bytes.now c.from_le_bytes.result whole.long (λ i. search rules) (c.from_le_bytes.ensures ∙ ap (from_le_bytes w64) whole.same)), c.from_le_bytes.type_inv)

@@ -1,6 +1,5 @@
-use Rattle.std.proofs.Common.{◌≡◌, ◌++◌, map}
-use Rattle.std.specs.Vec.Iter.{into_iter_items}
-use Rattle.jb_slice_run.specs.{Held.new_output_in, Named.faults_by, Named.faults_held, declared.partition_output.PartitionOutput.PartitionOutput}
+use Rattle.std.{proofs.Common.{◌≡◌, ◌++◌, map}, specs.Vec.Iter.{into_iter_items}}
+use Rattle.jb_slice_run.specs.{Held.{new_output_in}, Named.{faults_by, faults_held}, declared.partition_output.PartitionOutput.{PartitionOutput}}
 use Rattle.jb_slice_run.proofs.resuming.parts_of.Given as goal
 
 -- those so far, with those to come behind them

@@ -1,5 +1,5 @@
 use Rattle.std.proofs.Common.{◌≡◌, map, take}
-use Rattle.jb_slice_run.specs.{Held.faults_in, Strings.AreFaultsSmall, Strings.fault_string}
+use Rattle.jb_slice_run.specs.{Held.{faults_in}, Strings.{AreFaultsSmall, fault_string}}
 use Rattle.jb_slice_run.proofs.strings.faults_list.Given as goal
 
 -- the faults so far are put

@@ -1,6 +1,5 @@
-use Rattle.std.proofs.Common.{◌≡◌, ◌++◌, map}
-use Rattle.std.specs.Vec.Iter.{into_iter_items}
-use Rattle.jb_slice_run.specs.{Held.new_output_in, Strings.AreOutputsSmall, Strings.new_output_lists}
+use Rattle.std.{proofs.Common.{◌≡◌, ◌++◌, map}, specs.Vec.Iter.{into_iter_items}}
+use Rattle.jb_slice_run.specs.{Held.{new_output_in}, Strings.{AreOutputsSmall, new_output_lists}}
 use Rattle.jb_slice_run.proofs.strings.push_partitions.Given as goal
 
 -- the lists so far, with those to come behind them

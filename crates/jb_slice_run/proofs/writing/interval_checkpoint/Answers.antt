@@ -1,6 +1,5 @@
-use Rattle.std.proofs.Common.{map, sym, subst, ap, ◌∙◌}
-use Rattle.jb_slice_run.specs.{Coding.AreCodable, Coding.coded, Held.new_output_in, Strings.AreLimitsSmall, Strings.AreOutputsSmall, Strings.interval_lists}
-use Rattle.jb_slice_run.proofs.Grown.{lists_number}
+use Rattle.std.proofs.{Common.{arith, map, sym, subst, ap, ◌∙◌}, lemmas.List.{length-map}}
+use Rattle.jb_slice_run.{specs.Strings.{all_new_output, new_output_of, AreLimitsSmall, AreOutputsSmall, interval_lists}, specs.Coding.{AreCodable, coded}, specs.Held.{new_output_in}, proofs.Grown.{three_each}}
 use Rattle.jb_slice_run.proofs.writing.interval_checkpoint.Goals as goal
 
 pub returns-clause-kept : goal.returns-clause-kept
@@ -12,5 +11,5 @@ returns-clause-kept c i held limits new_output read rows =
       held = held;
       read = read;
       rows = rows;
-      lists = record { codable = subst AreCodable given c.in_ok-results.ensures.fits; coding = c.in_ok-results.ensures.coded ∙ ap coded given; number = lists_number i };
+      lists = record { codable = subst AreCodable given c.in_ok-results.ensures.fits; coding = c.in_ok-results.ensures.coded ∙ ap coded given; number = omega (arith, three_each (all_new_output i.partitions), length-map i.partitions new_output_of) };
     }

@@ -21,7 +21,10 @@ leaves_run g c process_run was run clean leaves image may =
     let early : HasCleanDisk (file_state c.in-Ok.conn) = omega (arith, late, c.run_over_files.ensures.clean) in
     let opened = c.in-Ok.ensures.opened early in
     ∥∥₁_elim (c.in-Ok.ensures.found early leaves) squash₁ (λ h.
-    run clean (λ db m. let r = c.run_over_files.ensures.crash late opened g.N.Meaning.functions c.requires.stamps h.0 h.1 ((c.requires.run h.0).0 h.2) db m in (r.0, r.1, (c.requires.run r.0).1 r.2)) image may)
+    run clean (λ db m.
+    let r = c.run_over_files.ensures.crash g.N.Meaning.functions h.0
+    (record { shown = record { clean = late; opened = opened; shows = c.run_over_files.ensures.shown opened h.0 h.1 }; stamps_are = c.requires.stamps; so_far = (c.requires.run h.0).0 h.2 }) db m in
+    (r.0, r.1, (c.requires.run r.0).1 r.2)) image may)
 
 pub returns-in-Ok : goal.returns-in-Ok
 returns-in-Ok g c =

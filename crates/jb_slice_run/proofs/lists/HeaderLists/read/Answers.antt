@@ -1,7 +1,6 @@
 use Rattle.std.proofs.Common.{subst, sym}
 use Rattle.jb_slice_file.proofs.Handed.{handed_on}
-use Rattle.jb_slice_run.specs.{Coding.IsCodingOf, Strings.header_lists}
-use Rattle.jb_slice_run.proofs.Why.{why_not}
+use Rattle.jb_slice_run.{specs.Coding.{IsCodingOf}, specs.Strings.{header_lists}, proofs.Why.{why_not}}
 use Rattle.jb_slice_run.proofs.lists.HeaderLists.read.Goals as goal
 
 pub returns-in_err-lists-clause-why : goal.returns-in_err-lists-clause-why
