@@ -37,8 +37,6 @@ module _ (m : ArgMatches) (name : Text) (own : Option Text) (words : List Text) 
 
 -- a wrong value is why words are refused
 pub refused-by : (name : Text) (own : Option Text) (words : List Text) (e : CsvJobError) → IsWrong (first_at name own words) e → AreRefused name own words e
-refused-by name own words (failure.Words (fault.OldForm threads)) wrong = absurd wrong
-refused-by name own words (failure.Words (fault.Wrong text)) wrong = absurd wrong
 refused-by name own words (failure.Words (fault.Threads value)) wrong = wrong
 refused-by name own words (failure.Words (fault.Records value)) wrong = wrong
 refused-by name own words (failure.Words (fault.Part value)) wrong = wrong

@@ -13,5 +13,6 @@ pub mod Sinks
 pub mod Skipped
 pub mod SliceTexts
 pub mod Slices
+pub mod Standing
 pub mod Statuses
 pub mod Tasks

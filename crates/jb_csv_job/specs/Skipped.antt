@@ -2,8 +2,6 @@
 use Rattle.std.specs.Prelude.{ℕ, zero, suc, ◌≡◌, ◌-◌, ◌/◌, ◌⊎◌, ◌++◌, Bool, true, false, if◌then◌else◌, List, [], ◌∷◌, Option, None, Some, IfSome, codes, decimal, get_or, length, map, slice_get, unwrap_or, ⊤}
 use Rattle.std.specs.Io.KnownBytes.{Appends}
 use Rattle.std.specs.List.Sorted.{IsNonDecreasingBy, IsPermutation}
-use Rattle.jb_answers.specs.Classes.{class_name}
-use Rattle.jb_answers.specs.declared.fault_class.FaultClass.{FaultClass}
 use Rattle.jb_base.specs.declared.class.ClassId.{ClassId}
 use Rattle.jb_collect.specs.declared.calls.Status.TheVariants.{Completed, Failed}
 use Rattle.jb_csv_job.specs.Done.{AreRead, IsInput}
@@ -29,15 +27,11 @@ use Rattle.jb_slices.specs.Job.{IsLastSlice, Job, first_of, slice_at}
 abbrev pub record_bytes : (records : List (List ℕ)) → (first number : ℕ) → List ℕ
 record_bytes records first number = unwrap_or (slice_get records (number - first)) []
 
--- the line of a fault: its record's number, the first being 0, the line in which the record begins, the name of the class, and the record's fields
-abbrev pub skipped_row : (classes : List FaultClass) → (records : List (List ℕ)) → (lines : List ℕ) → (first : ℕ) → held.Fault → Fields
-skipped_row classes records lines first fault = decimal fault.number ∷ decimal (line_at lines first fault.number) ∷ class_name classes fault.class ∷ fields_in (record_bytes records first fault.number)
-
 -- the name of a class, by the names of all classes
 abbrev pub name_in : (names : List (List ℕ)) → ClassId → List ℕ
 name_in names class = unwrap_or (slice_get names class.number) (codes "a class without a name")
 
--- the same by the names of the classes
+-- the line of a fault: its record's number, the first being 0, the line in which the record begins, the name of the class, and the record's fields
 abbrev pub skipped_by : (names : List (List ℕ)) → (records : List (List ℕ)) → (lines : List ℕ) → (first : ℕ) → held.Fault → Fields
 skipped_by names records lines first fault = decimal fault.number ∷ decimal (line_at lines first fault.number) ∷ name_in names fault.class ∷ fields_in (record_bytes records first fault.number)
 
@@ -129,3 +123,7 @@ IfListed None None Holds = ⊤
 IfListed None (Some new) Holds = ⊥
 IfListed (Some old) None Holds = ⊥
 IfListed (Some old) (Some new) Holds = Holds old new
+
+-- the list took rows since, of which this holds, or there is none
+abbrev pub IfTook : {L : Type 0} → (took : (start now : L) → (rows : List (List ℕ)) → Type 0) → (old new : Option L) → (List (List ℕ) → Type 0) → Type 0
+IfTook took old new Holds = IfListed old new (λ start now. (rows : List (List ℕ)) × took start now rows × Holds rows)

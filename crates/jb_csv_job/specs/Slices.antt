@@ -7,19 +7,18 @@ use Rattle.jb_collect.specs.declared.calls.Status.TheVariants.{Completed, Failed
 use Rattle.jb_records.specs.PartitionResults.{joined}
 use Rattle.jb_slice_file.specs.Files.{HasRunCheckpoints}
 use Rattle.jb_slice_run.specs.declared.durable.end.SliceEnd.{SliceEnd}
-use Rattle.jb_slice_run.specs.durable.Work.{IfResumed}
+use Rattle.jb_slice_run.specs.durable.Work.{IfResumed, SoFar}
 use Rattle.jb_slice_run.specs.Held.{faults_in, limits_in}
 use Rattle.jb_slice_run.specs.Jobs.{job_in, stamps_in}
 use Rattle.jb_slice_run.specs.Named.{failure_in}
 use Rattle.jb_slice_run.specs.declared.job.SliceJob.{SliceJob}
 use Rattle.jb_slices.specs.Checkpoint.{Checkpoint}
 use Rattle.jb_slices.specs.Failures.{IsFailureOf, failures_in}
-use Rattle.jb_slices.specs.Function.{all_results, faults_from}
+use Rattle.jb_slices.specs.Function.{Function, all_results, faults_from}
 use Rattle.jb_slices.specs.Job.{first_of, rules_of}
 use Rattle.jb_slices.specs.Passing.{SlicePasses}
 use Rattle.jb_slices.specs.Slice.{Functions, IsSliceSoFar, skips_in, stamp_of}
 use Rattle.jb_csv_job.specs.Job.{JobRecord, identity_of, limits_of, stamps_of}
-use Rattle.jb_csv_job.specs.SliceFiles.{KeepsOwn}
 use Rattle.jb_csv_job.specs.declared.asked.Asked.{Asked}
 use Rattle.jb_csv_job.specs.declared.job.CsvJob.{CsvJob}
 
@@ -50,11 +49,14 @@ pub record IsSliceEnd (job : JobRecord) (number : ℕ) (items : List (List ℕ))
 
 -- ---- A SLICE THAT IS RESUMED over its file
 
+-- the job, with the identity and the limits that a slice's run goes by
+abbrev pub run_record : JobRecord → SliceJob → JobRecord
+run_record job slice = record job { job = job_in slice; limits = limits_in slice.limits }
+
 -- it ends so
 abbrev pub EndsResumed : {E : Type 0} → SliceJob → JobRecord → (number : ℕ) → (items : List (List ℕ)) → (old new : State) → Result SliceEnd E → Type 0
-EndsResumed slice job number items old new result = IfResumed slice job.function number items old new (λ _ _. IfOk result (IsSliceEnd job number items))
+EndsResumed slice job number items old new result = IfResumed slice job.function number items old new (λ _ _. IfOk result (IsSliceEnd (run_record job slice) number items))
 
 -- and a crash leaves it so far
-abbrev pub LeavesResumed : SliceJob → JobRecord → (number : ℕ) → (items : List (List ℕ)) → (old new : State) → Type 0
-LeavesResumed slice job number items old new =
-    IfResumed slice job.function number items old new (λ w _. (db : Trees) → new.may_leave db → HasRunCheckpoints (λ kept. KeepsOwn job w.functions number items kept) db)
+abbrev pub LeavesResumed : SliceJob → Function → (number : ℕ) → (items : List (List ℕ)) → (old new : State) → Type 0
+LeavesResumed slice f number items old new = IfResumed slice f number items old new (λ w _. (db : Trees) → new.may_leave db → HasRunCheckpoints (SoFar w) db)

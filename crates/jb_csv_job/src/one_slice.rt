@@ -1,6 +1,6 @@
 //! One slice of a job, from the open of its file to its close.
 
-ghost use Rattle.std.specs.Prelude.{◌≡◌, ◌≤◌, ◌⊎◌, ℕ, [], List, IfOk, IsTrue};
+ghost use Rattle.std.specs.Prelude.{◌≡◌, ◌≤◌, ◌⊎◌, [], Some, IfOk, IsTrue};
 ghost use Rattle.std.specs.Arc.{arc_value};
 ghost use Rattle.sqlite.specs.Files.{HoldsDatabase, IsNothing, file_state};
 ghost use Rattle.sqlite.specs.Held.{state};
@@ -16,8 +16,8 @@ ghost use Rattle.jb_slice_file.specs.Rows.{Has, ShowsList};
 ghost use Rattle.jb_slice_run.specs.Step.{AreStampsOf};
 ghost use Rattle.jb_slices.specs.Slice.{Functions};
 ghost use Rattle.jb_csv_job.specs.Job.{stamps_of};
-ghost use Rattle.jb_csv_job.specs.SliceFiles.{HoldsSlice, KeepsOwn};
-ghost use Rattle.jb_csv_job.specs.Loop.{LeavesOne, job_of};
+ghost use Rattle.jb_csv_job.specs.SliceFiles.{HoldsSlice, KeepsOwn, LeavesJob, slice_of};
+ghost use Rattle.jb_csv_job.specs.Loop.{IfResumes, IsOwnSlice, LeavesAny, job_of};
 ghost use Rattle.jb_csv_job.specs.Slices.{EndsResumed, IsSliceEnd, LeavesResumed};
 
 use crate::asked::Task;
@@ -29,10 +29,10 @@ use crate::kinds::other_kind;
 use crate::meter::Meter;
 use crate::progress::StderrProgress;
 use crate::stopping::is_stopped;
-use crate::stored::{Before, OneStored};
+use crate::stored::{Before, OneStored, Stored};
 use crate::work::Work;
 use jb_base::PackedList;
-use jb_rows::RowFunction;
+use jb_rows::{RowFunction, Rows};
 use jb_slice_file::{closed, connect};
 use jb_slice_run::{ASecond, SliceEnd, SliceError, collect_slice, run_slice};
 use sqlite::{Alter, Connection, FileFrom, FileStore, Files, Start};
@@ -61,7 +61,7 @@ fn ran<
     ensures ended { EndsResumed work.now.slice (job_of work.now (F.answer (arc_value function.now))) number items.now (state S.Store conn.old) (state S.Store conn.new) result }
     ensures status { IfOk result (λ end. (end.status ≡ Completed) ⊎ (end.status ≡ Failed)) }
     ensures clean { doubt (state S.Store conn.old).is_clean ≤ doubt (state S.Store conn.new).is_clean }
-    ensures crash { LeavesResumed work.now.slice (job_of work.now (F.answer (arc_value function.now))) number items.now (state S.Store conn.old) (state S.Store conn.new) }
+    ensures crash { LeavesResumed work.now.slice (F.answer (arc_value function.now)) number items.now (state S.Store conn.old) (state S.Store conn.new) }
 {
     let listener = StderrProgress {
         rt: *rt,
@@ -105,7 +105,7 @@ fn collected<F: RowFunction + Drop + 'static, S: Alter>(
     ensures ended { EndsResumed work.now.slice (job_of work.now (F.answer (arc_value function.now))) number items.now (state S.Store conn.old) (state S.Store conn.new) result }
     ensures status { IfOk result (λ end. (end.status ≡ Completed) ⊎ (end.status ≡ Failed)) }
     ensures clean { doubt (state S.Store conn.old).is_clean ≤ doubt (state S.Store conn.new).is_clean }
-    ensures crash { LeavesResumed work.now.slice (job_of work.now (F.answer (arc_value function.now))) number items.now (state S.Store conn.old) (state S.Store conn.new) }
+    ensures crash { LeavesResumed work.now.slice (F.answer (arc_value function.now)) number items.now (state S.Store conn.old) (state S.Store conn.new) }
 {
     match collect_slice(alloc, conn, &work.slice, number, function, items) {
         Ok(Some(end)) => Ok(end),
@@ -136,7 +136,7 @@ fn answered<
     ensures ended { EndsResumed work.now.slice (job_of work.now (F.answer (arc_value function.now))) number items.now (state S.Store conn.old) (state S.Store conn.new) result }
     ensures status { IfOk result (λ end. (end.status ≡ Completed) ⊎ (end.status ≡ Failed)) }
     ensures clean { doubt (state S.Store conn.old).is_clean ≤ doubt (state S.Store conn.new).is_clean }
-    ensures crash { LeavesResumed work.now.slice (job_of work.now (F.answer (arc_value function.now))) number items.now (state S.Store conn.old) (state S.Store conn.new) }
+    ensures crash { LeavesResumed work.now.slice (F.answer (arc_value function.now)) number items.now (state S.Store conn.old) (state S.Store conn.new) }
 {
     if is_collected(work) {
         return collected(alloc, conn, work, number, function, items);
@@ -213,17 +213,13 @@ pub(crate) fn run_slice_at<
     function: &Arc<F, Global>,
     items: &PackedList,
 ) -> Result<(Files<FileFrom<S>>, Result<SliceEnd, CsvJobError>), CsvJobError>
-    // Over files that held the slice so far, or nothing, it ends by what it says of its items.
-    ensures ended { IfOk result (λ r. AreClean ⟦<FileFrom<S> as Disk>⟧ r.0.log r.0.db → (functions : Functions) → AreStampsOf functions (F.answer (arc_value function.now)) (stamps_of work.now.job.now work.now.asked.now)
+    // Over files that held the slice so far, or nothing, it ends by what it says of its items; and whatever a crash leaves of them holds the slice so
+    // far again.
+    ensures resumed { IfOk result (λ r. AreClean ⟦<FileFrom<S> as Disk>⟧ r.0.log r.0.db → (functions : Functions) → AreStampsOf functions (F.answer (arc_value function.now)) (stamps_of work.now.job.now work.now.asked.now)
         → HoldsSlice (job_of work.now (F.answer (arc_value function.now))) functions number items.now (image_at S.Start)
-        → IfOk r.1 (IsSliceEnd (job_of work.now (F.answer (arc_value function.now))) number items.now)) }
+        → IfOk r.1 (IsSliceEnd (job_of work.now (F.answer (arc_value function.now))) number items.now)
+        × ((image : Image) → outcomes ⟦<FileFrom<S> as Disk>⟧ r.0.log r.0.db image → HoldsRun (KeepsOwn (job_of work.now (F.answer (arc_value function.now))) functions number items.now) image)) }
     ensures status { IfOk result (λ r. IfOk r.1 (λ end. (end.status ≡ Completed) ⊎ (end.status ≡ Failed))) }
-
-    // Whatever a crash leaves of them holds the slice so far again.
-    ensures crash { IfOk result (λ r. AreClean ⟦<FileFrom<S> as Disk>⟧ r.0.log r.0.db → (functions : Functions) → AreStampsOf functions (F.answer (arc_value function.now)) (stamps_of work.now.job.now work.now.asked.now)
-        → HoldsSlice (job_of work.now (F.answer (arc_value function.now))) functions number items.now (image_at S.Start)
-        → (image : Image) → outcomes ⟦<FileFrom<S> as Disk>⟧ r.0.log r.0.db image
-        → HoldsRun (KeepsOwn (job_of work.now (F.answer (arc_value function.now))) functions number items.now) image) }
 {
     let host = rt.host();
     let mut conn = opened(host, work, number, start)?;
@@ -241,11 +237,13 @@ pub(crate) fn run_slice_at<
     Ok((closed(conn), answer))
 }
 
-/// The same, and gives the files to the keeper. What they held is picked by the call.
+/// The same over the items of these records, and gives the files to the keeper. What they held is picked by the call: what the file of this slice
+/// holds as the job begins.
 pub(crate) fn kept_slice<
     F: RowFunction + Drop + 'static,
     T: Threads + Wait + Clock + Eprint + Host + Copy + Send + Sync + 'static,
     G: OneStored,
+    H: Stored,
     K: Keeper,
 >(
     rt: &T,
@@ -254,18 +252,23 @@ pub(crate) fn kept_slice<
     results_before: u64,
     meter: &mut Meter,
     function: &Arc<F, Global>,
-    items: &PackedList,
+    rows: &Rows,
     keeper: &mut K,
 ) -> Result<SliceEnd, CsvJobError>
-    ensures ended { IsTrue (K.are_clean keeper.new) → (functions : Functions) → AreStampsOf functions (F.answer (arc_value function.now)) (stamps_of work.now.job.now work.now.asked.now)
-        → HoldsSlice (job_of work.now (F.answer (arc_value function.now))) functions number items.now (record { log = G.log; db = G.db })
-        → IfOk result (IsSliceEnd (job_of work.now (F.answer (arc_value function.now))) number items.now) }
+    ensures ended { IsTrue (K.are_clean keeper.new) → G.log ≡ H.log number → G.db ≡ H.db number → IfResumes (job_of work.now (F.answer (arc_value function.now))) H.log H.db (λ functions text records.
+        IsOwnSlice (job_of work.now (F.answer (arc_value function.now))) records number rows.now
+        → IfOk result (IsSliceEnd (job_of work.now (F.answer (arc_value function.now))) number (slice_of (job_of work.now (F.answer (arc_value function.now))) records number))) }
     ensures status { IfOk result (λ end. (end.status ≡ Completed) ⊎ (end.status ≡ Failed)) }
     ensures clean { IsTrue (K.are_clean keeper.new) → IsTrue (K.are_clean keeper.old) }
-    ensures crash { IsTrue (K.are_clean keeper.new) → LeavesOne (job_of work.now (F.answer (arc_value function.now))) (record { log = G.log; db = G.db }) number items.now (K.may_leave keeper.old) (K.may_leave keeper.new) }
-    ensures items { IsTrue (K.are_clean keeper.new) → (k : ℕ) (read : List (List ℕ)) (image : Image) → K.may_leave keeper.new k read image
-        → K.may_leave keeper.old k read image ⊎ ((k ≡ number) × (read ≡ items.now)) }
+
+    // What a crash leaves of the files of this slice, whose items are those of the text's slice.
+    ensures left { IsTrue (K.are_clean keeper.new) → G.log ≡ H.log number → G.db ≡ H.db number → IfResumes (job_of work.now (F.answer (arc_value function.now))) H.log H.db (λ functions text records.
+        IsOwnSlice (job_of work.now (F.answer (arc_value function.now))) records number rows.now
+        → LeavesJob (job_of work.now (F.answer (arc_value function.now))) functions (Some text) (K.may_leave keeper.old) (K.may_leave keeper.new)) }
+    ensures crash { IsTrue (K.are_clean keeper.new) → G.log ≡ H.log number → G.db ≡ H.db number
+        → LeavesAny (job_of work.now (F.answer (arc_value function.now))) H.log H.db (K.may_leave keeper.old) (K.may_leave keeper.new) }
 {
+    let items = rows.as_list();
     let (files, answer) = run_slice_at(
         rt,
         work,

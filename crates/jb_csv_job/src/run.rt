@@ -2,12 +2,14 @@
 
 ghost use Rattle.std.specs.Prelude.{◌≡◌, ◌⊎◌, ℕ, Some, List, IfOk, IsTrue, MatchResult};
 ghost use Rattle.std.specs.Arc.{arc_value};
+ghost use Rattle.std.specs.Io.KnownBytes.{Keeps};
 ghost use Rattle.sqlite_wal.specs.Recovery.{Image};
 ghost use Rattle.jb_slices.specs.Slice.{Functions};
-ghost use Rattle.jb_csv_job.specs.Done.{HasEnded, HasSkipped, HasTakenAll, HasTakenSoFar, IsByRules, IsDoneSoFar, IsJobDone};
+ghost use Rattle.jb_csv_job.specs.Done.{HasSkipped, HasTakenAll, HasTakenSoFar, IsByRules, IsDoneSoFar, IsJobDone};
 ghost use Rattle.jb_csv_job.specs.Job.{job_record};
 ghost use Rattle.jb_csv_job.specs.SliceFiles.{CanResumeJob, LeavesJob, LeavesSlice};
 ghost use Rattle.jb_csv_job.specs.Loop.{IfJobResumes, LeavesAny, job_of};
+ghost use Rattle.jb_csv_job.specs.Sinks.{lines_written};
 ghost use Rattle.jb_csv_job.specs.Skipped.{HasListed, IfListed, IsListWritten};
 
 use crate::asked::Asked;
@@ -62,12 +64,17 @@ fn all_slices<
     list: &mut Option<L>,
     keeper: &mut K,
 ) -> Result<JobEnd, CsvJobError>
-    ensures ends { IsTrue (K.are_clean keeper.new) → IfJobResumes (job_of work.now (F.answer (arc_value function.now))) R.remaining reader.old H.log H.db (λ functions text.
-        IfOk result (λ end. HasEnded (job_of work.now (F.answer (arc_value function.now))) (Some text) (N.took sink.old sink.new) end.status end.skips)) }
-    ensures lists { IsTrue (K.are_clean keeper.new) → IfJobResumes (job_of work.now (F.answer (arc_value function.now))) R.remaining reader.old H.log H.db (λ functions text.
-        IfOk result (λ end. IfListed list.old list.new (λ old new. HasListed (job_of work.now (F.answer (arc_value function.now))) (Some text) (L.took old new) end.status end.skips))) }
+    ensures all { IsTrue (K.are_clean keeper.new) → IfJobResumes (job_of work.now (F.answer (arc_value function.now))) R.remaining reader.old H.log H.db (λ functions text.
+        IfOk result (λ end. end.status ≡ 0 → HasTakenAll (job_of work.now (F.answer (arc_value function.now))) (Some text) (N.took sink.old sink.new))) }
     ensures so_far { IsTrue (K.are_clean keeper.new) → IfJobResumes (job_of work.now (F.answer (arc_value function.now))) R.remaining reader.old H.log H.db (λ functions text.
-        MatchResult result (λ end. HasTakenSoFar (job_of work.now (F.answer (arc_value function.now))) (Some text) (N.took sink.old sink.new)) (λ e. N.may_refuse e ⊎ HasTakenSoFar (job_of work.now (F.answer (arc_value function.now))) (Some text) (N.took sink.old sink.new))) }
+        MatchResult result (λ end. HasTakenSoFar (job_of work.now (F.answer (arc_value function.now))) (Some text) (N.took sink.old sink.new))
+        (λ e. N.may_refuse e ⊎ HasTakenSoFar (job_of work.now (F.answer (arc_value function.now))) (Some text) (N.took sink.old sink.new))) }
+    ensures by_rules { IsTrue (K.are_clean keeper.new) → IfJobResumes (job_of work.now (F.answer (arc_value function.now))) R.remaining reader.old H.log H.db (λ functions text.
+        IfOk result (λ end. IsByRules (job_of work.now (F.answer (arc_value function.now))) (Some text) end.status)) }
+    ensures skips { IsTrue (K.are_clean keeper.new) → IfJobResumes (job_of work.now (F.answer (arc_value function.now))) R.remaining reader.old H.log H.db (λ functions text.
+        IfOk result (λ end. end.status ≡ 0 → HasSkipped (job_of work.now (F.answer (arc_value function.now))) (Some text) end.skips)) }
+    ensures listed { IsTrue (K.are_clean keeper.new) → IfJobResumes (job_of work.now (F.answer (arc_value function.now))) R.remaining reader.old H.log H.db (λ functions text.
+        IfOk result (λ end. IfListed list.old list.new (λ old new. HasListed (job_of work.now (F.answer (arc_value function.now))) (Some text) (L.took old new) end.status end.skips))) }
     ensures status { IfOk result (λ end. (end.status ≡ 0) ⊎ (end.status ≡ 1)) }
     ensures clean { IsTrue (K.are_clean keeper.new) → IsTrue (K.are_clean keeper.old) }
     ensures left { IsTrue (K.are_clean keeper.new) → IfJobResumes (job_of work.now (F.answer (arc_value function.now))) R.remaining reader.old H.log H.db (λ functions text.
@@ -172,6 +179,21 @@ pub fn run_slices<
     all_slices::<F, T, H, K, R, N, L>(rt, &work, &function, reader, sink, list, keeper)
 }
 
+/// The streams, after all that was written.
+fn finished<W: Write + Drop, S: Write + Drop>(
+    alloc: Global,
+    asked: &Asked,
+    sink: CsvSink<W>,
+    list: Option<CsvSink<S>>,
+) -> Result<(W, Option<S>), CsvJobError>
+    ensures results { IfOk result (λ r. Keeps (lines_written W.contents sink) (W.contents r.0)) }
+    ensures list { IfOk result (λ r. IfListed list r.1 (λ old new. Keeps (lines_written S.contents old) (S.contents new))) }
+{
+    let to = sink.finish()?;
+    let listed = end_list(alloc, asked, list)?;
+    Ok((to, listed))
+}
+
 /// `run_slices` with the records of a stream, and writes the results to another one, each a line, after the header row if it is copied. A part
 /// writes nothing. With a third stream it lists there the records that were skipped, and those by which partitions failed. Gives back the streams
 /// that were written to.
@@ -245,7 +267,6 @@ pub fn run_csv_job<
         &mut listing,
         keeper,
     )?;
-    let to = sink.finish()?;
-    let listed = end_list(alloc, asked, listing)?;
+    let (to, listed) = finished(alloc, asked, sink, listing)?;
     Ok((end, to, listed))
 }

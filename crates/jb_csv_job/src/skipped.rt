@@ -11,7 +11,7 @@ ghost use Rattle.jb_rows.specs.Texts.{copied_by};
 ghost use Rattle.jb_csv_job.specs.Job.{identity_of};
 ghost use Rattle.jb_csv_job.specs.Reports.{line_at};
 ghost use Rattle.jb_csv_job.specs.Sinks.{IsBetweenLines, lines_written};
-ghost use Rattle.jb_csv_job.specs.Skipped.{IfListed, IsSliceListed, record_bytes, skipped_header, skipped_row};
+ghost use Rattle.jb_csv_job.specs.Skipped.{IfListed, IsSliceListed, record_bytes, skipped_by, skipped_header};
 
 use crate::asked::Asked;
 use crate::failure::{CsvJobError, OutputFault};
@@ -48,9 +48,7 @@ fn all_faults(
     ensures rising { IfOk result (λ listed. IsNonDecreasingBy (λ fault. fault.number) listed.items) }
 {
     let mut listed = Vec::new(alloc);
-    for fault in skips {
-        listed.push(*fault)?;
-    }
+    listed.extend_from_slice(skips)?;
     for failure in failures {
         listed.push(failure.fault)?;
     }
@@ -63,9 +61,7 @@ fn skipped_faults(alloc: Global, skips: &[Fault]) -> Result<Vec<Fault>, AllocErr
     ensures { IfOk result (λ listed. listed.items ≡ skips.now) }
 {
     let mut listed = Vec::new(alloc);
-    for fault in skips {
-        listed.push(*fault)?;
-    }
+    listed.extend_from_slice(skips)?;
     Ok(listed)
 }
 
@@ -110,7 +106,7 @@ fn rows_of(
     of: &SliceRecords,
     faults: &[Fault],
 ) -> Result<PackedList, AllocError>
-    ensures { IfOk result (λ rows. map fields_in rows ≡ map (skipped_row classes.now of.now.records.now of.now.lines.now of.now.first) faults.now) }
+    ensures { IfOk result (λ rows. map fields_in rows ≡ map (skipped_by (map (λ class. class.name.now) classes.now) of.now.records.now of.now.lines.now of.now.first) faults.now) }
 {
     let mut rows = PackedList::new(alloc);
     let mut head = RowBuilder::new(alloc);
@@ -135,7 +131,7 @@ fn headings(alloc: Global) -> Result<RowBuilder, AllocError>
 
 /// Header rows of the list, packed: `number`, `line`, `class`, and the fields of these ones.
 fn headed(alloc: Global, headers: &PackedList) -> Result<PackedList, AllocError>
-    ensures { IfOk result (λ rows. map fields_in rows ≡ map (λ bytes. skipped_header (fields_in bytes)) headers.now) }
+    ensures { IfOk result (λ rows. map fields_in rows ≡ map skipped_header (map fields_in headers.now)) }
 {
     let mut rows = PackedList::new(alloc);
     let head = headings(alloc)?;

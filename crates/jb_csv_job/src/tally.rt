@@ -1,8 +1,8 @@
 //! What is counted from slice to slice.
 
-ghost use Rattle.std.specs.Prelude.{◌≡◌, ◌⊎◌, false, true, IfOk};
+ghost use Rattle.std.specs.Prelude.{◌≡◌, ◌⊎◌, false, IfOk};
 ghost use Rattle.jb_collect.specs.declared.calls.Status.TheVariants.{Completed, Failed};
-ghost use Rattle.jb_csv_job.specs.Loop.{IsCounted};
+ghost use Rattle.jb_csv_job.specs.Loop.{IsCounted, IsEndOf};
 
 use crate::failure::CsvJobError;
 use crate::run::JobEnd;
@@ -62,18 +62,6 @@ impl Tally {
         }
     }
 
-    /// Counts so many records that were read.
-    pub(crate) fn read(&mut self, records: u64) -> Result<(), CsvJobError>
-        ensures skips { self.new.skips ≡ self.old.skips }
-        ensures failed { self.new.is_failed ≡ self.old.is_failed }
-    {
-        let Some(records) = self.records.checked_add(records) else {
-            return Err(CsvJobError::TooMany);
-        };
-        self.records = records;
-        Ok(())
-    }
-
     /// Counts a slice that ended, of a job that skips at most so many records.
     pub(crate) fn add(&mut self, end: &SliceEnd, limit: Option<u64>) -> Result<Seam, CsvJobError>
         requires { (end.now.status ≡ Completed) ⊎ (end.now.status ≡ Failed) }
@@ -102,10 +90,7 @@ impl Tally {
 
     /// How the job ends.
     pub(crate) fn end(&self) -> JobEnd
-        ensures status { (result.status ≡ 0) ⊎ (result.status ≡ 1) }
-        ensures completed { result.status ≡ 0 → self.now.is_failed ≡ false }
-        ensures failed { result.status ≡ 1 → self.now.is_failed ≡ true }
-        ensures skips { result.skips ≡ self.now.skips }
+        ensures { IsEndOf self.now result }
     {
         JobEnd {
             status: if self.is_failed { 1 } else { 0 },

@@ -1,6 +1,6 @@
 //! The arguments of the command line.
 
-ghost use Rattle.std.specs.Prelude.{◌≡◌, ◌≤◌, map, option_map, string_bytes, IfErr, IfOk, IfSome};
+ghost use Rattle.std.specs.Prelude.{◌≡◌, ◌≤◌, map, option_map, IfErr, IfOk, IfSome};
 ghost use Rattle.jb_base.specs.Limits.{max_threads};
 ghost use Rattle.jb_csv_job.specs.CommandLine.{AreRefused, IsOldForm};
 ghost use Rattle.jb_csv_job.specs.Parsing.{IsAnswer};
@@ -11,6 +11,7 @@ use crate::failure::{CsvJobError, WordsFault};
 use crate::host::Host;
 use crate::job::CsvJob;
 use crate::line::asked_in;
+use crate::work::texts_of;
 use clap::error::ErrorKind;
 use jb_base::MAX_THREADS;
 use jb_rows::RowsError;
@@ -110,16 +111,6 @@ fn words_of(alloc: Global, args: io::Result<Args>) -> Result<Vec<String>, CsvJob
         Err(error) if error.kind() == io::ErrorKind::OutOfMemory => Err(CsvJobError::Memory),
         Err(_) => Err(CsvJobError::Words(WordsFault::NoText)),
     }
-}
-
-fn texts_of(alloc: Global, words: &[String]) -> Result<Vec<&str>, AllocError>
-    ensures { IfOk result (λ texts. map (λ w. w.now) texts.items ≡ map string_bytes words.now) }
-{
-    let mut texts = Vec::new(alloc);
-    for word in words {
-        texts.push(word.as_str())?;
-    }
-    Ok(texts)
 }
 
 /// The program's own option, in owned texts.

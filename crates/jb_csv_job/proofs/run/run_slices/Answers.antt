@@ -1,6 +1,6 @@
-use Rattle.std.{proofs.Common.{◌≡◌, ◌∙◌, ◌⊎◌, ℕ, List, ap, subst, Some}, proofs.lemmas.Result.{IfOk-weaker}, specs.Arc.{arc_value}, specs.Prelude.{IfOk, IsTrue, MatchResult}}
+use Rattle.std.{proofs.Common.{◌≡◌, ◌∙◌, ◌⊎◌, ℕ, List, ap, subst, Some}, specs.Arc.{arc_value}, specs.Prelude.{IfOk, MatchResult}}
 use Rattle.jb_slices.specs.Slice.{Functions}
-use Rattle.jb_csv_job.specs.{Done.{HasEnded, HasTakenSoFar}, Job.{JobRecord, job_record}, Loop.{IfJobResumes, LeavesAny, job_of}, Skipped.{HasListed, IfListed}, SliceFiles.{LeavesJob}}
+use Rattle.jb_csv_job.specs.{Done.{HasSkipped, HasTakenAll, HasTakenSoFar, IsByRules}, Job.{JobRecord, job_record}, Loop.{IfJobResumes, LeavesAny, job_of}, Skipped.{HasListed, IfListed}, SliceFiles.{LeavesJob}}
 use Rattle.jb_csv_job.proofs.Carrying.{none-taken}
 use Rattle.jb_csv_job.proofs.run.run_slices.Goals as goal
 
@@ -23,24 +23,22 @@ module _ (g : _) (c : goal.After-drop-name-inside-2 g) where
       → IfJobResumes own g.R.Read.remaining c.args.reader.now g.H.Stored.log g.H.Stored.db (Q own)
   carried Q holds = subst (λ job. IfJobResumes job g.R.Read.remaining c.args.reader.now g.H.Stored.log g.H.Stored.db (Q job)) same holds
 
-  ended : IsTrue (g.K.Keeper.are_clean c.all_slices.new.keeper) → IfJobResumes own g.R.Read.remaining c.args.reader.now g.H.Stored.log g.H.Stored.db (λ functions text.
-      IfOk c.all_slices.result (λ end. HasEnded own (Some text) (g.N.Sink.took c.args.sink.now c.all_slices.new.sink) end.status end.skips))
-  ended clean =
-      carried (λ job functions text. IfOk c.all_slices.result (λ end. HasEnded job (Some text) (g.N.Sink.took c.args.sink.now c.all_slices.new.sink) end.status end.skips)) (c.all_slices.ensures.ends clean)
-
 pub returns-clause-all : goal.returns-clause-all
-returns-clause-all g c clean text given functions up = IfOk-weaker c.all_slices.result _ _ (λ end e. e.all) (ended g c clean text given functions up)
+returns-clause-all g c clean =
+    carried g c (λ job functions text. IfOk c.all_slices.result (λ end. end.status ≡ 0 → HasTakenAll job (Some text) (g.N.Sink.took c.args.sink.now c.all_slices.new.sink)))
+    (c.all_slices.ensures.all clean)
 
 pub returns-clause-by_rules : goal.returns-clause-by_rules
-returns-clause-by_rules g c clean text given functions up = IfOk-weaker c.all_slices.result _ _ (λ end e. e.by_rules) (ended g c clean text given functions up)
+returns-clause-by_rules g c clean = carried g c (λ job functions text. IfOk c.all_slices.result (λ end. IsByRules job (Some text) end.status)) (c.all_slices.ensures.by_rules clean)
 
 pub returns-clause-skips : goal.returns-clause-skips
-returns-clause-skips g c clean text given functions up = IfOk-weaker c.all_slices.result _ _ (λ end e. e.skipped) (ended g c clean text given functions up)
+returns-clause-skips g c clean =
+    carried g c (λ job functions text. IfOk c.all_slices.result (λ end. end.status ≡ 0 → HasSkipped job (Some text) end.skips)) (c.all_slices.ensures.skips clean)
 
 pub returns-clause-listed : goal.returns-clause-listed
 returns-clause-listed g c clean =
     carried g c (λ job functions text. IfOk c.all_slices.result (λ end. IfListed c.args.list.now c.all_slices.new.list (λ old new. HasListed job (Some text) (g.L.Sink.took old new) end.status end.skips)))
-    (c.all_slices.ensures.lists clean)
+    (c.all_slices.ensures.listed clean)
 
 pub returns-clause-so_far : goal.returns-clause-so_far
 returns-clause-so_far g c clean =
@@ -59,16 +57,16 @@ returns-clause-crash g c clean =
 
 pub returns-in_err-name-clause-so_far : goal.returns-in_err-name-clause-so_far
 returns-in_err-name-clause-so_far g c clean text given functions up =
-    none-taken _ functions text g.H.Stored.log g.H.Stored.db up (g.N.Sink.took c.args.sink.now c.args.sink.now) (g.met.N.Sink.none c.args.sink.now) g.N.Sink.may_refuse _
+    none-taken up (g.N.Sink.took c.args.sink.now c.args.sink.now) (g.met.N.Sink.none c.args.sink.now) g.N.Sink.may_refuse _
 
 pub returns-in_err-classes-clause-so_far : goal.returns-in_err-classes-clause-so_far
 returns-in_err-classes-clause-so_far g c clean text given functions up =
-    none-taken _ functions text g.H.Stored.log g.H.Stored.db up (g.N.Sink.took c.args.sink.now c.args.sink.now) (g.met.N.Sink.none c.args.sink.now) g.N.Sink.may_refuse _
+    none-taken up (g.N.Sink.took c.args.sink.now c.args.sink.now) (g.met.N.Sink.none c.args.sink.now) g.N.Sink.may_refuse _
 
 pub returns-in_err-stamps-clause-so_far : goal.returns-in_err-stamps-clause-so_far
 returns-in_err-stamps-clause-so_far g c clean text given functions up =
-    none-taken _ functions text g.H.Stored.log g.H.Stored.db up (g.N.Sink.took c.args.sink.now c.args.sink.now) (g.met.N.Sink.none c.args.sink.now) g.N.Sink.may_refuse _
+    none-taken up (g.N.Sink.took c.args.sink.now c.args.sink.now) (g.met.N.Sink.none c.args.sink.now) g.N.Sink.may_refuse _
 
 pub returns-in_err-function-clause-so_far : goal.returns-in_err-function-clause-so_far
 returns-in_err-function-clause-so_far g c clean text given functions up =
-    none-taken _ functions text g.H.Stored.log g.H.Stored.db up (g.N.Sink.took c.args.sink.now c.args.sink.now) (g.met.N.Sink.none c.args.sink.now) g.N.Sink.may_refuse _
+    none-taken up (g.N.Sink.took c.args.sink.now c.args.sink.now) (g.met.N.Sink.none c.args.sink.now) g.N.Sink.may_refuse _

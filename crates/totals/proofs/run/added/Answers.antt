@@ -3,7 +3,7 @@ use Rattle.std.specs.Prelude.{IsTrue}
 use Rattle.jb_csv_job.specs.Done.{HasTakenAll}
 use Rattle.jb_csv_job.specs.Skipped.{IfListed}
 use Rattle.jb_csv_job.specs.SliceFiles.{LeavesJob}
-use Rattle.jb_csv_job.proofs.Carrying.{of-stream}
+use Rattle.jb_csv_job.proofs.Going.{of-stream}
 use Rattle.jb_csv_job.proofs.Writing.{list-whole}
 use Rattle.jb_rows.proofs.Headers.{copied-is}
 use Rattle.jb_slices.specs.Slice.{Functions}
