@@ -16,7 +16,7 @@ SLICE = 100_000  # time sheets of a slice
 MOST_BYTES, MOST_GROWTH = 64_000_000, 1.2  # of a longer payroll; to the short one
 MOST_RESUMED = 1.2  # to reading the input and one slice
 MOST_KEPT = 8  # to the same step without files: 2.7 to 6.1 were read, most of it SHA-256, as docs/DECISIONS.md says
-TIMES = 2  # each time that is compared is the least of so many
+TIMES = 5  # each time that is compared is the least of so many
 ROOM = 60  # bytes of disk for a time sheet
 
 
@@ -79,32 +79,41 @@ class Bounds:
         yield self.check(f"to one of {SHORT}", long.peak / short.peak, MOST_GROWTH, "times")
         yield f"a payroll of {self.count} time sheets: {long.clock:.1f} s, {long.seconds:.1f} s of the processor"
 
-    def least(self, *given, before=lambda: None, **how):
-        """The least processor time of some runs."""
-        found = []
-        for _ in range(TIMES):
-            before()
-            found.append(self.run(*given, **how).seconds)
-        return min(found)
+    def least(self, *runs):
+        """Of each of some runs the least processor time. The runs take turns, so that what slows the machine for a while slows them alike."""
+        turns = [[run().seconds for run in runs] for _ in range(TIMES)]
+        return [min(times) for times in zip(*turns)]
+
+    def anew(self, length, folder, **how):
+        """A run of which no slice has begun."""
+        shutil.rmtree(self.room / folder, ignore_errors=True)
+        return self.run(length, folder, **how)
+
+    def without_last(self, *words):
+        """A run of the long payroll of which all slices are whole but the last one that has time sheets."""
+        durable.remove(durable.slices.path_of(self.room / "long", self.count // SLICE - 1))
+        return self.run(self.count, "long", *words)
 
     def resuming(self):
         """The last slice that has time sheets is run again: as a part of its own, and by a plain call."""
         last, parts = self.count // SLICE - 1, self.count // SLICE + 1
-        one = self.least(SLICE, "one", before=lambda: shutil.rmtree(self.room / "one", ignore_errors=True))
-        reading = self.least(self.count, "none", "--part", f"{parts}/{parts + 1}")
-        collecting = self.least(self.count, "long", "--collect")
-        remove = lambda: durable.remove(durable.slices.path_of(self.room / "long", last))
-        part = self.least(self.count, "long", "--part", f"{last}/{parts}", before=remove)
-        whole = self.least(self.count, "long", before=remove)
+        one, reading, collecting, part, whole = self.least(
+            lambda: self.anew(SLICE, "one"),
+            lambda: self.run(self.count, "none", "--part", f"{parts}/{parts + 1}"),
+            lambda: self.run(self.count, "long", "--collect"),
+            lambda: self.without_last("--part", f"{last}/{parts}"),
+            lambda: self.without_last(),
+        )
         yield self.check("the last slice, as a part", part / (reading + one), MOST_RESUMED, "times reading the input and one slice")
         yield self.check("the last slice, by a plain call", whole / (collecting + one), MOST_RESUMED, "times a collect and one slice")
         yield f"processor seconds: reading {reading:.2f}, a slice {one:.2f}, a collect {collecting:.2f}, a part {part:.2f}, a call {whole:.2f}"
 
     def files(self):
         """The same slices with their files and without."""
-        remove = lambda: shutil.rmtree(self.room / "kept", ignore_errors=True)
-        kept = self.least(SHORT, "kept", program=self.small, before=remove)
-        without = self.least(SHORT, "kept", program=self.small, job={"unkept": 1})
+        kept, without = self.least(
+            lambda: self.anew(SHORT, "kept", program=self.small),
+            lambda: self.run(SHORT, "kept", program=self.small, job={"unkept": 1}),
+        )
         yield self.check(f"a payroll of {SHORT} time sheets", kept / without, MOST_KEPT, "times the same step without files")
 
 
