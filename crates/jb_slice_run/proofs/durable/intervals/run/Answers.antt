@@ -1,4 +1,4 @@
-use Rattle.std.proofs.Common.{◌≡◌, arith}
+use Rattle.std.proofs.Common.{arith}
 use Rattle.jb_slice_file.proofs.Clean.{clean_before}
 use Rattle.jb_slice_file.proofs.Handed.{handed_on}
 use Rattle.jb_slice_run.proofs.durable.Causing.{breaks_since, later_on}

@@ -1,4 +1,4 @@
-use Rattle.std.proofs.Common.{◌≡◌, ◌≤◌, length, inl, refl, sym, ◌∙◌, true≢false, le_trans, arith}
+use Rattle.std.proofs.Common.{◌≤◌, length, inl, refl, sym, ◌∙◌, true≢false, le_trans}
 use Rattle.sqlite.specs.Held.{state}
 use Rattle.std.specs.Arc.{arc_value}
 use Rattle.jb_slice_file.proofs.Handed.{handed_on}

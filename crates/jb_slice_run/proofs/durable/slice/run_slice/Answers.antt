@@ -1,4 +1,4 @@
-use Rattle.std.proofs.Common.{IfOk, List, inl, arith}
+use Rattle.std.proofs.Common.{IfOk, List, arith}
 use Rattle.std.specs.Arc.{arc_value}
 use Rattle.std.proofs.lemmas.Result.{IfErr-weaker, IfOk-at_ok, IfOk-weaker}
 use Rattle.sqlite.specs.Held.{state}
