@@ -8,14 +8,13 @@ class Refused(Exception):
     """Why a program isn't built, in a line."""
 
 
-def libraries_of(top):
-    """The libraries of each crate of crates.txt, in the file's order, which is lowest first."""
+def lines_of(top):
+    """The lines of crates.txt by the names of their crates, in the file's order, which is lowest first."""
     try:
         lines = (top / "crates.txt").read_text(encoding="utf-8").splitlines()
     except OSError as fault:
         raise Refused(f"{top}/crates.txt can't be read: {fault.strerror}") from None
-    rows = [line.split(":") for line in lines if line.strip() and not line.startswith("#")]
-    return {names.split()[0]: libraries.split() for names, libraries in rows}
+    return {line.split(":")[0].split()[0]: line for line in lines if line.strip() and not line.startswith("#")}
 
 
 class Program:
@@ -23,7 +22,8 @@ class Program:
 
     def __init__(self, top, name):
         self.top, self.name, self.crate = top, name, top / "crates" / name
-        self.libraries = libraries_of(top)
+        self.lines = lines_of(top)
+        self.libraries = {crate: line.split(":")[1].split() for crate, line in self.lines.items()}
         if name not in self.libraries:
             raise Refused(f"there is no crate {name}: {top}/crates.txt has no such line")
         needed, found = set(), [name]
@@ -37,11 +37,6 @@ class Program:
     def own_below(self, crate):
         """The libraries of a crate that are crates of the repository."""
         return [library for library in self.libraries[crate] if library in self.libraries]
-
-    def all_below(self, crate):
-        """The crates of the repository that a crate stands on, directly or by others."""
-        below = set(self.own_below(crate))
-        return below.union(*map(self.all_below, below))
 
     def files_of(self, crate):
         """The paths of a crate's sources."""

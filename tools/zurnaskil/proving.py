@@ -1,45 +1,66 @@
-"""In which order the crates of a program are proved.
+"""The proof of a program's crates, and its build, by `rt ci` over a copy of these crates alone.
 
-`rt all check` in a crate's folder proves that crate and those that it stands on. With `--jobs N` it proves N crates at a time, with one
-process each. Without, it gives the crate that all others lie below as many processes as there are processors and memory for. So crates that
-don't stand on each other are proved side by side first, as long as there are enough of them; the others follow one by one, and each has all
-processors.
+`rt ci` proves each crate from nothing, as the gate does, and those above it load what it states. `rt check` keeps the proofs themselves for
+the next check, and those above it load them too, which takes longer from nothing (docs/DECISIONS.md has both times). `rt ci` builds a program
+whose crates are proved, and keeps what it proved beside the kit, if it may write there: a crate that doesn't change isn't proved again on
+this machine.
 """
 import os
+import pathlib
+import re
+import shutil
+import subprocess
 
-AT_ONCE = min(os.cpu_count(), 4)  # a check takes up to 4 GB
-ENOUGH = 1.5  # so many crates at a time, on average, are proved side by side
+from . import children, unproved
 
-
-def calls(program):
-    """The calls of `rt all check`, one after another: a crate, in whose folder it runs, and the words behind it."""
-    if AT_ONCE == 1:
-        return [(program.name, ["--jobs", "1"])]
-    work = {crate: lines_of(program, crate) for crate in program.needed}
-    left, found = program.needed, []
-    while left:
-        at_a_time = {crate: side_by_side(program, work, left, crate) for crate in left}
-        crate = max(left, key=at_a_time.get)
-        is_enough = at_a_time[crate] >= ENOUGH
-        crate = crate if is_enough else left[0]
-        found.append((crate, ["--jobs", str(AT_ONCE)] * is_enough))
-        left = [other for other in left if other != crate and other not in program.all_below(crate)]
-    return found
+VERDICT = re.compile(r"rt: (\w+) (proved|is kept|NOT PROVED)\b(?!: its library)")  # rt's line on a crate
+NOT_READ = shutil.ignore_patterns("out", "must-fail")
 
 
-def lines_of(program, crate):
-    """A measure of what a crate's proof takes: the lines of its sources."""
-    lines = 1
-    for path in program.files_of(crate):
-        with open(path, "rb") as file:
-            lines += sum(1 for _ in file)
-    return lines
+class Proof:
+    """A call of `rt ci` over a copy in the folder `room`, and what it said of each crate."""
+
+    def __init__(self, program, room):
+        self.program, self.room, self.said, self.ended = program, pathlib.Path(room), {}, {}
+
+    def copy(self):
+        (self.room / ".git").mkdir()  # it is the top of a repository
+        shutil.copy(self.program.top / "HANDLES", self.room)
+        (self.room / "crates.txt").write_text("".join(self.program.lines[crate] + "\n" for crate in self.program.needed), encoding="utf-8")
+        for crate in self.program.needed:
+            shutil.copytree(self.program.top / "crates" / crate, self.room / "crates" / crate, ignore=NOT_READ)
+
+    def run(self, log):
+        """Proves and builds; `log` gets what is said."""
+        section, streams = None, {"stdout": subprocess.PIPE, "stderr": subprocess.STDOUT, "encoding": "utf-8", "errors": "replace"}
+        with open(log, "w", encoding="utf-8") as kept, children.started([unproved.RT, "ci"], cwd=self.room, **streams) as child:
+            for line in child.stdout:
+                line = line.replace(str(self.room), str(self.program.top))
+                kept.write(line)
+                kept.flush()
+                section = line[3:].strip() if line.startswith("== ") else section
+                self.said.setdefault(section, []).append(line)
+                verdict = VERDICT.match(line)
+                if verdict:
+                    section = None
+                    self.end(verdict[1], verdict[2], processor_minutes(child))
+
+    def end(self, crate, verdict, minutes):
+        self.ended[crate] = verdict
+        self.program.say(f"{len(self.ended)} of {len(self.program.needed)} ended, {crate} the last; {minutes} processor minutes so far")
+
+    def made(self):
+        """The built program, if its crates are proved."""
+        path = self.room / "crates" / self.program.name / "out" / self.program.name
+        return path if self.ended.get(self.program.name) in ("proved", "is kept") and path.is_file() else None
+
+    def last_words(self):
+        """What was said last of the first crate that isn't proved; else what was said of no crate."""
+        failed = next((crate for crate in self.program.needed if self.ended.get(crate) == "NOT PROVED"), None)
+        return self.said.get(failed) or self.said.get(None, [])
 
 
-def side_by_side(program, work, left, top):
-    """How many crates at a time can be proved, of those that are left of a crate and of those below it: their work by that of the longest chain."""
-    chain = {}
-    for crate in left:  # lowest first
-        if crate == top or crate in program.all_below(top):
-            chain[crate] = work[crate] + max((chain.get(below, 0) for below in program.own_below(crate)), default=0)
-    return sum(work[crate] for crate in chain) / chain[top]
+def processor_minutes(process):
+    """Of a process that runs, with those of its children that have ended."""
+    fields = pathlib.Path(f"/proc/{process.pid}/stat").read_text(encoding="utf-8").rpartition(")")[2].split()
+    return int(sum(map(int, fields[11:15])) / os.sysconf("SC_CLK_TCK") / 60)
