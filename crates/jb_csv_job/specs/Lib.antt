@@ -1,4 +1,5 @@
 pub mod Asking
+pub mod Causes
 pub mod CommandLine
 pub mod Done
 pub mod Failures

@@ -61,6 +61,8 @@ pub enum Request {
 }
 
 impl Asked {
+    ghost use Rattle.jb_csv_job.specs.Causes.{IsRunError};
+
     /// Refuses another number of records than `--records` says, once so many are read, up to the end of the input or not.
     ///
     /// # Errors
@@ -68,6 +70,7 @@ impl Asked {
     pub fn refuse_other_number(&self, read: u64, is_end: bool) -> Result<(), CsvJobError>
         ensures same { OnOk result (AreAsMany self.now.records read is_end) }
         ensures other { IfErr result (λ _. AreAsMany self.now.records read is_end → ⊥) }
+        ensures cause { IfErr result (IsRunError self.now) }
     {
         let Some(asked) = self.records else {
             return Ok(());

@@ -6,6 +6,8 @@ ghost use Rattle.jb_collect.specs.declared.calls.Status.TheVariants.{Completed, 
 ghost use Rattle.jb_rows.specs.Fields.{Fields};
 ghost use Rattle.jb_slices.specs.Function.{Function};
 ghost use Rattle.jb_slices.specs.Job.{HasSlice, slice_at};
+ghost use Rattle.jb_csv_job.specs.Causes.{IsRunErrorOver};
+ghost use Rattle.jb_csv_job.specs.declared.failure.CsvJobError.TheVariants.{TooMany};
 ghost use Rattle.jb_csv_job.specs.Job.{identity_of};
 ghost use Rattle.jb_csv_job.specs.SliceFiles.{LeavesJob, slice_of};
 ghost use Rattle.jb_csv_job.specs.Loop.{AreDone, IfResumes, IsOver, IsOwnSlice, IsSliceRead, LeavesAny, StandsBefore, job_of};
@@ -50,6 +52,7 @@ fn settle<N: Sink>(
     ensures fine { IfOk result (λ _. tally.new.is_failed ≡ false → (tally.old.is_failed ≡ false) × (end.now.status ≡ Completed)) }
     ensures over { IfOk result (λ goes_on. goes_on ≡ false → IsOver work.now.job.now.job_skip_limit tally.new.skips) }
     ensures kept { IfErr result (λ e. N.may_refuse e ⊎ (sink.new ≡ sink.old)) }
+    ensures cause { IfErr result (λ e. N.may_refuse e ⊎ (e ≡ TooMany)) }
 {
     match tally.add(end, work.job.job_skip_limit)? {
         Seam::Gives => {
@@ -94,6 +97,7 @@ fn end_slice<
         → HaveRun (job_of work.now f) text records number tally.old.skips tally.old.is_failed (N.took start sink.old) (IfTook L.took begin list.old)
         → IfOk result (HasGoneOn (job_of work.now f) R.remaining text records number reader.now tally.new.skips tally.new.is_failed (N.took start sink.new) (IfTook L.took begin list.new)) }
     ensures kept { IfErr result (λ e. N.may_refuse e ⊎ (sink.new ≡ sink.old)) }
+    ensures cause { IfErr result (IsRunErrorOver N.may_refuse L.may_refuse work.now.asked.now) }
 {
     let items = rows.as_list();
     let lines = reader.lines();
@@ -141,6 +145,7 @@ fn own_slice<
         → HaveRun (job_of work.now (F.answer (arc_value function.now))) text records number tally.old.skips tally.old.is_failed (N.took start sink.old) (IfTook L.took begin list.old)
         → IfOk result (HasGoneOn (job_of work.now (F.answer (arc_value function.now))) R.remaining text records number reader.now tally.new.skips tally.new.is_failed (N.took start sink.new) (IfTook L.took begin list.new))) }
     ensures kept { IfErr result (λ e. N.may_refuse e ⊎ (sink.new ≡ sink.old)) }
+    ensures cause { IfErr result (IsRunErrorOver N.may_refuse L.may_refuse work.now.asked.now) }
     ensures clean { IsTrue (K.are_clean keeper.new) → IsTrue (K.are_clean keeper.old) }
     ensures left { IsTrue (K.are_clean keeper.new) → IfResumes (job_of work.now (F.answer (arc_value function.now))) H.log H.db (λ functions text records.
         IsOwnSlice (job_of work.now (F.answer (arc_value function.now))) records number rows.now
@@ -192,6 +197,7 @@ pub(crate) fn next_slice<
 
     // After an error that isn't the sink's own it is as it was.
     ensures kept { IfErr result (λ e. N.may_refuse e ⊎ (sink.new ≡ sink.old)) }
+    ensures cause { IfErr result (IsRunErrorOver N.may_refuse L.may_refuse work.now.asked.now) }
     ensures clean { IsTrue (K.are_clean keeper.new) → IsTrue (K.are_clean keeper.old) }
 
     // What a crash leaves of the slice's files.

@@ -1,6 +1,6 @@
 //! One slice of a job, from the open of its file to its close.
 
-ghost use Rattle.std.specs.Prelude.{◌≡◌, ◌≤◌, ◌⊎◌, [], Some, IfOk, IsTrue};
+ghost use Rattle.std.specs.Prelude.{◌≡◌, ◌≤◌, ◌⊎◌, [], Some, IfErr, IfOk, IsTrue, MatchResult, true};
 ghost use Rattle.std.specs.Arc.{arc_value};
 ghost use Rattle.sqlite.specs.Files.{HoldsDatabase, IsNothing, file_state};
 ghost use Rattle.sqlite.specs.Held.{state};
@@ -15,7 +15,9 @@ ghost use Rattle.jb_slice_file.specs.Files.{HoldsRun};
 ghost use Rattle.jb_slice_file.specs.Rows.{Has, ShowsList};
 ghost use Rattle.jb_slice_run.specs.Step.{AreStampsOf};
 ghost use Rattle.jb_slices.specs.Slice.{Functions};
+ghost use Rattle.jb_csv_job.specs.Causes.{IsRunError};
 ghost use Rattle.jb_csv_job.specs.Job.{stamps_of};
+ghost use Rattle.jb_csv_job.specs.declared.asked.Task.TheVariants.{Collect};
 ghost use Rattle.jb_csv_job.specs.SliceFiles.{HoldsSlice, KeepsOwn, LeavesJob, slice_of};
 ghost use Rattle.jb_csv_job.specs.Loop.{IfResumes, IsOwnSlice, LeavesAny, job_of};
 ghost use Rattle.jb_csv_job.specs.Slices.{EndsResumed, IsSliceEnd, LeavesResumed};
@@ -60,6 +62,7 @@ fn ran<
 ) -> Result<SliceEnd, CsvJobError>
     ensures ended { EndsResumed work.now.slice (job_of work.now (F.answer (arc_value function.now))) number items.now (state S.Store conn.old) (state S.Store conn.new) result }
     ensures status { IfOk result (λ end. (end.status ≡ Completed) ⊎ (end.status ≡ Failed)) }
+    ensures cause { IfErr result (IsRunError work.now.asked.now) }
     ensures clean { doubt (state S.Store conn.old).is_clean ≤ doubt (state S.Store conn.new).is_clean }
     ensures crash { LeavesResumed work.now.slice (F.answer (arc_value function.now)) number items.now (state S.Store conn.old) (state S.Store conn.new) }
 {
@@ -104,6 +107,7 @@ fn collected<F: RowFunction + Drop + 'static, S: Alter>(
 ) -> Result<SliceEnd, CsvJobError>
     ensures ended { EndsResumed work.now.slice (job_of work.now (F.answer (arc_value function.now))) number items.now (state S.Store conn.old) (state S.Store conn.new) result }
     ensures status { IfOk result (λ end. (end.status ≡ Completed) ⊎ (end.status ≡ Failed)) }
+    ensures cause { work.now.asked.now.task ≡ Collect → IfErr result (IsRunError work.now.asked.now) }
     ensures clean { doubt (state S.Store conn.old).is_clean ≤ doubt (state S.Store conn.new).is_clean }
     ensures crash { LeavesResumed work.now.slice (F.answer (arc_value function.now)) number items.now (state S.Store conn.old) (state S.Store conn.new) }
 {
@@ -135,6 +139,7 @@ fn answered<
 ) -> Result<SliceEnd, CsvJobError>
     ensures ended { EndsResumed work.now.slice (job_of work.now (F.answer (arc_value function.now))) number items.now (state S.Store conn.old) (state S.Store conn.new) result }
     ensures status { IfOk result (λ end. (end.status ≡ Completed) ⊎ (end.status ≡ Failed)) }
+    ensures cause { IfErr result (IsRunError work.now.asked.now) }
     ensures clean { doubt (state S.Store conn.old).is_clean ≤ doubt (state S.Store conn.new).is_clean }
     ensures crash { LeavesResumed work.now.slice (F.answer (arc_value function.now)) number items.now (state S.Store conn.old) (state S.Store conn.new) }
 {
@@ -155,7 +160,9 @@ fn answered<
 }
 
 /// Whether slices are collected.
-fn is_collected(work: &Work) -> bool {
+fn is_collected(work: &Work) -> bool
+    ensures { result ≡ true → work.now.asked.now.task ≡ Collect }
+{
     matches!(work.asked.task, Task::Collect)
 }
 
@@ -170,6 +177,7 @@ fn opened<S: Start>(
     ensures opened { IfOk result (λ conn. HasCleanDisk (file_state conn) → IsJustOpened (file_state conn)) }
     ensures found { IfOk result (λ conn. HasCleanDisk (file_state conn) → (db : _) (all : _) → HoldsDatabase (image_at S.Start) db → Has db all → ShowsList (file_state conn).now all) }
     ensures nothing { IfOk result (λ conn. HasCleanDisk (file_state conn) → IsNothing (image_at S.Start) → ShowsList (file_state conn).now []) }
+    ensures cause { IfErr result (IsRunError work.now.asked.now) }
 {
     let folder = work.asked.folder.as_str();
     if is_stopped(host, folder) {
@@ -220,6 +228,7 @@ pub(crate) fn run_slice_at<
         → IfOk r.1 (IsSliceEnd (job_of work.now (F.answer (arc_value function.now))) number items.now)
         × ((image : Image) → outcomes ⟦<FileFrom<S> as Disk>⟧ r.0.log r.0.db image → HoldsRun (KeepsOwn (job_of work.now (F.answer (arc_value function.now))) functions number items.now) image)) }
     ensures status { IfOk result (λ r. IfOk r.1 (λ end. (end.status ≡ Completed) ⊎ (end.status ≡ Failed))) }
+    ensures cause { MatchResult result (λ r. IfErr r.1 (IsRunError work.now.asked.now)) (IsRunError work.now.asked.now) }
 {
     let host = rt.host();
     let mut conn = opened(host, work, number, start)?;
@@ -259,6 +268,7 @@ pub(crate) fn kept_slice<
         IsOwnSlice (job_of work.now (F.answer (arc_value function.now))) records number rows.now
         → IfOk result (IsSliceEnd (job_of work.now (F.answer (arc_value function.now))) number (slice_of (job_of work.now (F.answer (arc_value function.now))) records number))) }
     ensures status { IfOk result (λ end. (end.status ≡ Completed) ⊎ (end.status ≡ Failed)) }
+    ensures cause { IfErr result (IsRunError work.now.asked.now) }
     ensures clean { IsTrue (K.are_clean keeper.new) → IsTrue (K.are_clean keeper.old) }
 
     // What a crash leaves of the files of this slice, whose items are those of the text's slice.

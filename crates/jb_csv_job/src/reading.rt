@@ -1,9 +1,11 @@
 //! The records of a slice.
 
-ghost use Rattle.std.specs.Prelude.{ℕ, List, IfOk};
+ghost use Rattle.std.specs.Prelude.{◌≡◌, ℕ, List, IfErr, IfOk};
 ghost use Rattle.jb_rows.specs.Fields.{Fields};
 ghost use Rattle.jb_rows.specs.Texts.{AreRowsOf};
 ghost use Rattle.jb_slices.specs.Function.{Function};
+ghost use Rattle.jb_csv_job.specs.Causes.{IsRunError};
+ghost use Rattle.jb_csv_job.specs.declared.failure.CsvJobError.TheVariants.{TooMany};
 ghost use Rattle.jb_csv_job.specs.Loop.{IsSliceRead, StandsBefore, job_of};
 
 use crate::failure::CsvJobError;
@@ -13,7 +15,9 @@ use jb_slices::is_last_slice;
 use std::io::Read;
 
 /// So many records, and so many more.
-fn sum_of(records: u64, more: u64) -> Result<u64, CsvJobError> {
+fn sum_of(records: u64, more: u64) -> Result<u64, CsvJobError>
+    ensures { IfErr result (λ e. e ≡ TooMany) }
+{
     match records.checked_add(more) {
         Some(all) => Ok(all),
         None => Err(CsvJobError::TooMany),
@@ -28,9 +32,10 @@ pub(crate) fn read_slice<R: Read>(
     rows: &mut Rows,
     so_far: &mut u64,
 ) -> Result<bool, CsvJobError>
-    ensures { (f : Function) (text : List ℕ) (records : List Fields) (number : ℕ) → AreRowsOf work.now.job.now.options text records
+    ensures read { (f : Function) (text : List ℕ) (records : List Fields) (number : ℕ) → AreRowsOf work.now.job.now.options text records
         → StandsBefore (job_of work.now f) R.remaining text records number reader.old
         → IfOk result (IsSliceRead (job_of work.now f) R.remaining text records number reader.new rows.new) }
+    ensures cause { IfErr result (IsRunError work.now.asked.now) }
 {
     let most = work.job.slice_length;
     reader.next_rows(rows, most as usize)?;

@@ -1,10 +1,11 @@
 //! A job over CSV, slice after slice.
 
-ghost use Rattle.std.specs.Prelude.{◌≡◌, ◌⊎◌, ℕ, Some, List, IfOk, IsTrue, MatchResult};
+ghost use Rattle.std.specs.Prelude.{◌≡◌, ◌⊎◌, ℕ, Some, List, IfErr, IfOk, IsTrue, MatchResult};
 ghost use Rattle.std.specs.Arc.{arc_value};
 ghost use Rattle.std.specs.Io.KnownBytes.{Keeps};
 ghost use Rattle.sqlite_wal.specs.Recovery.{Image};
 ghost use Rattle.jb_slices.specs.Slice.{Functions};
+ghost use Rattle.jb_csv_job.specs.Causes.{IsRunError, IsRunErrorOver};
 ghost use Rattle.jb_csv_job.specs.Done.{HasSkipped, HasTakenAll, HasTakenSoFar, IsByRules, IsDoneSoFar, IsJobDone};
 ghost use Rattle.jb_csv_job.specs.Job.{job_record};
 ghost use Rattle.jb_csv_job.specs.SliceFiles.{CanResumeJob, LeavesJob, LeavesSlice};
@@ -76,6 +77,7 @@ fn all_slices<
     ensures listed { IsTrue (K.are_clean keeper.new) → IfJobResumes (job_of work.now (F.answer (arc_value function.now))) R.remaining reader.old H.log H.db (λ functions text.
         IfOk result (λ end. IfListed list.old list.new (λ old new. HasListed (job_of work.now (F.answer (arc_value function.now))) (Some text) (L.took old new) end.status end.skips))) }
     ensures status { IfOk result (λ end. (end.status ≡ 0) ⊎ (end.status ≡ 1)) }
+    ensures cause { IfErr result (IsRunErrorOver N.may_refuse L.may_refuse work.now.asked.now) }
     ensures clean { IsTrue (K.are_clean keeper.new) → IsTrue (K.are_clean keeper.old) }
     ensures left { IsTrue (K.are_clean keeper.new) → IfJobResumes (job_of work.now (F.answer (arc_value function.now))) R.remaining reader.old H.log H.db (λ functions text.
         LeavesJob (job_of work.now (F.answer (arc_value function.now))) functions (Some text) (K.may_leave keeper.old) (K.may_leave keeper.new)) }
@@ -160,6 +162,9 @@ pub fn run_slices<
     // It is 0 or 1.
     ensures status { IfOk result (λ end. (end.status ≡ 0) ⊎ (end.status ≡ 1)) }
 
+    // Why there is no answer: by what is asked, or by a failure of the sink's or the list's own.
+    ensures cause { IfErr result (IsRunErrorOver N.may_refuse L.may_refuse asked.now) }
+
     // Disks that are clean after the call were so before it.
     ensures clean { IsTrue (K.are_clean keeper.new) → IsTrue (K.are_clean keeper.old) }
 
@@ -188,6 +193,7 @@ fn finished<W: Write + Drop, S: Write + Drop>(
 ) -> Result<(W, Option<S>), CsvJobError>
     ensures results { IfOk result (λ r. Keeps (lines_written W.contents sink) (W.contents r.0)) }
     ensures list { IfOk result (λ r. IfListed list r.1 (λ old new. Keeps (lines_written S.contents old) (S.contents new))) }
+    ensures cause { IfErr result (IsRunError asked.now) }
 {
     let to = sink.finish()?;
     let listed = end_list(alloc, asked, list)?;
@@ -240,6 +246,9 @@ pub fn run_csv_job<
 
     // It is 0 or 1.
     ensures status { IfOk result (λ r. (r.0.status ≡ 0) ⊎ (r.0.status ≡ 1)) }
+
+    // Why there is no answer, by what is asked.
+    ensures cause { IfErr result (IsRunError asked.now) }
 
     // Disks that are clean after the call were so before it.
     ensures clean { IsTrue (K.are_clean keeper.new) → IsTrue (K.are_clean keeper.old) }

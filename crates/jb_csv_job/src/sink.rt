@@ -38,7 +38,7 @@ pub struct CsvSink<W: Write + Drop> {
 }
 
 impl<W: Write + Drop> CsvSink<W> {
-    ghost use Rattle.jb_csv_job.specs.Sinks.{IsBetweenLines, lines_written};
+    ghost use Rattle.jb_csv_job.specs.Sinks.{IsBetweenLines, IsRowsError, lines_written};
 
     /// To this stream. Takes no memory, and writes nothing.
     pub fn new(alloc: Global, options: &RowsOptions, to: W) -> CsvSink<W>
@@ -57,9 +57,10 @@ impl<W: Write + Drop> CsvSink<W> {
         options: &RowsOptions,
         reader: &RowsReader<R>,
     ) -> Result<(), CsvJobError>
-        ensures { OnOk result (IsBetweenLines options.now.delimiter self.old → IsBetweenLines options.now.delimiter self.new
+        ensures written { OnOk result (IsBetweenLines options.now.delimiter self.old → IsBetweenLines options.now.delimiter self.new
             × Appends (lines_written W.contents self.old) (lines_written W.contents self.new)
             (csv_rows options.now.delimiter (given_by task (copied_by options.now.header (kept_header reader.now))))) }
+        ensures cause { IfErr result IsRowsError }
     {
         match task {
             Task::Run | Task::Collect => {
@@ -72,7 +73,8 @@ impl<W: Write + Drop> CsvSink<W> {
 
     /// The stream, after all that was written.
     pub fn finish(self) -> Result<W, CsvJobError>
-        ensures { IfOk result (λ to. Keeps (lines_written W.contents self) (W.contents to)) }
+        ensures kept { IfOk result (λ to. Keeps (lines_written W.contents self) (W.contents to)) }
+        ensures cause { IfErr result IsRowsError }
     {
         let to = self.writer.finish()?;
         Ok(to)

@@ -1,6 +1,6 @@
 //! The list of the records that were skipped, and of those by which partitions failed.
 
-ghost use Rattle.std.specs.Prelude.{◌≡◌, ◌++◌, ◌*◌, ◌∷◌, ◌⊎◌, ℕ, [], codes, decimal, map, IfOk, List, OnOk};
+ghost use Rattle.std.specs.Prelude.{◌≡◌, ◌++◌, ◌*◌, ◌∷◌, ◌⊎◌, ℕ, [], codes, decimal, map, IfErr, IfOk, List, OnOk};
 ghost use Rattle.std.specs.Io.KnownBytes.{Appends, Keeps};
 ghost use Rattle.std.specs.List.Sorted.{IsNonDecreasingBy, IsPermutation};
 ghost use Rattle.jb_answers.specs.Classes.{class_name};
@@ -8,6 +8,8 @@ ghost use Rattle.jb_collect.specs.declared.calls.Status.TheVariants.{Completed};
 ghost use Rattle.jb_rows.specs.Fields.{fields_in};
 ghost use Rattle.jb_rows.specs.Streams.{csv_rows, kept_header};
 ghost use Rattle.jb_rows.specs.Texts.{copied_by};
+ghost use Rattle.jb_csv_job.specs.Causes.{IsListError, IsRunError};
+ghost use Rattle.jb_csv_job.specs.declared.failure.CsvJobError.TheVariants.{TooMany};
 ghost use Rattle.jb_csv_job.specs.Job.{identity_of};
 ghost use Rattle.jb_csv_job.specs.Reports.{line_at};
 ghost use Rattle.jb_csv_job.specs.Sinks.{IsBetweenLines, lines_written};
@@ -152,7 +154,9 @@ fn header_row(alloc: Global, kind: Header, header: &Rows) -> Result<PackedList, 
 }
 
 /// Why the list isn't written: a failure of its stream names its path.
-fn list_failure(alloc: Global, asked: &Asked, error: CsvJobError) -> CsvJobError {
+fn list_failure(alloc: Global, asked: &Asked, error: CsvJobError) -> CsvJobError
+    ensures { (result ≡ error) ⊎ IsListError asked.now result }
+{
     let error = match error {
         CsvJobError::Rows(RowsError::Stream(error)) => error,
         other => return other,
@@ -173,7 +177,8 @@ fn list_failure(alloc: Global, asked: &Asked, error: CsvJobError) -> CsvJobError
 
 /// The number of a slice's first record.
 fn first_record(job: &CsvJob, number: u64) -> Result<u64, CsvJobError>
-    ensures { IfOk result (λ first. first ≡ number * job.now.slice_length) }
+    ensures first { IfOk result (λ first. first ≡ number * job.now.slice_length) }
+    ensures cause { IfErr result (λ e. e ≡ TooMany) }
 {
     match number.checked_mul(job.slice_length) {
         Some(first) => Ok(first),
@@ -192,8 +197,9 @@ pub(crate) fn list_slice<L: Sink>(
     lines: &[u64],
     end: &SliceEnd,
 ) -> Result<(), CsvJobError>
-    ensures { OnOk result (IfListed list.old list.new (λ old new. (start : L) (before : List (List ℕ)) → L.took start old before
+    ensures listed { OnOk result (IfListed list.old list.new (λ old new. (start : L) (before : List (List ℕ)) → L.took start old before
         → (rows : List (List ℕ)) × L.took start new (before ++ rows) × IsSliceListed (identity_of job.now).classes.names records.now lines.now (number * job.now.slice_length) end.now rows)) }
+    ensures cause { IfErr result (λ e. L.may_refuse e ⊎ IsRunError asked.now e) }
 {
     match list {
         Some(list) => {
@@ -224,8 +230,9 @@ pub fn begin_list<S: Write + Drop, R: Read>(
     reader: &RowsReader<R>,
     to: Option<S>,
 ) -> Result<Option<CsvSink<S>>, CsvJobError>
-    ensures { IfOk result (λ list. IfListed to list (λ old new. IsBetweenLines job.now.options.delimiter new
+    ensures begun { IfOk result (λ list. IfListed to list (λ old new. IsBetweenLines job.now.options.delimiter new
         × Appends (S.contents old) (lines_written S.contents new) (csv_rows job.now.options.delimiter (map skipped_header (copied_by job.now.options.header (kept_header reader.now)))))) }
+    ensures cause { IfErr result (IsListError asked.now) }
 {
     let Some(to) = to else {
         return Ok(None);
@@ -247,7 +254,8 @@ pub fn end_list<S: Write + Drop>(
     asked: &Asked,
     list: Option<CsvSink<S>>,
 ) -> Result<Option<S>, CsvJobError>
-    ensures { IfOk result (λ to. IfListed list to (λ old new. Keeps (lines_written S.contents old) (S.contents new))) }
+    ensures kept { IfOk result (λ to. IfListed list to (λ old new. Keeps (lines_written S.contents old) (S.contents new))) }
+    ensures cause { IfErr result (IsListError asked.now) }
 {
     let Some(list) = list else {
         return Ok(None);

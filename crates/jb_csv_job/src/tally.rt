@@ -1,7 +1,8 @@
 //! What is counted from slice to slice.
 
-ghost use Rattle.std.specs.Prelude.{◌≡◌, ◌⊎◌, false, IfOk};
+ghost use Rattle.std.specs.Prelude.{◌≡◌, ◌⊎◌, false, IfErr, IfOk};
 ghost use Rattle.jb_collect.specs.declared.calls.Status.TheVariants.{Completed, Failed};
+ghost use Rattle.jb_csv_job.specs.declared.failure.CsvJobError.TheVariants.{TooMany};
 ghost use Rattle.jb_csv_job.specs.Loop.{IsCounted, IsEndOf};
 
 use crate::failure::CsvJobError;
@@ -65,7 +66,8 @@ impl Tally {
     /// Counts a slice that ended, of a job that skips at most so many records.
     pub(crate) fn add(&mut self, end: &SliceEnd, limit: Option<u64>) -> Result<Seam, CsvJobError>
         requires { (end.now.status ≡ Completed) ⊎ (end.now.status ≡ Failed) }
-        ensures { IfOk result (IsCounted limit self.old self.new end.now) }
+        ensures counted { IfOk result (IsCounted limit self.old self.new end.now) }
+        ensures cause { IfErr result (λ e. e ≡ TooMany) }
     {
         self.slices = self.slices.saturating_add(1);
         if !matches!(end.status, Status::Completed) {

@@ -4,7 +4,7 @@ ghost use Rattle.std.specs.Prelude.{ℕ, List, ◌≡◌, ◌≢◌, ◌<◌, �
 ghost use Rattle.std.specs.Bool.{MatchBool};
 ghost use Rattle.jb_slice_file.specs.CheckpointBytes.{checkpoint_bytes};
 ghost use Rattle.jb_slices.specs.Checkpoint.{Begins, Header};
-ghost use Rattle.jb_slices.specs.Job.{AreRaised, HaveInCommon, IsRaised};
+ghost use Rattle.jb_slices.specs.Job.{AreRaised, HaveInCommon, IsRaised, Limits};
 ghost use Rattle.jb_slice_run.specs.Held.{header_in, limits_in};
 ghost use Rattle.jb_slice_run.specs.SliceBytes.{IsStoredAs};
 ghost use Rattle.jb_slice_run.specs.Refusals.{HaveSame, HaveThoseBefore, IsHeaderCause, IsHeaderRefusal, IsOwn, list_of, part_of};
@@ -161,6 +161,7 @@ impl HeaderLists {
     /// `Damaged` if these aren't limits.
     pub fn limits(&self) -> Result<SliceLimits, SliceError>
         ensures limits { (h : Header) → self.now ≡ header_lists h → IsHeaderSmall h → MatchResult result (λ limits. limits_in limits ≡ h.limits) (λ e. ⊥) }
+        ensures own { MatchResult result (λ limits. get_or self.now 7 [] ≡ limits_list (limits_in limits)) (λ _. (limits : Limits) → get_or self.now 7 [] ≡ limits_list limits → ⊥) }
         ensures why { IfErr result (λ e. e ≡ Damaged) }
     {
         read_limits(&self.lists[7])

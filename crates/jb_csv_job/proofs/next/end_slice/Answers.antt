@@ -11,7 +11,7 @@ returns-clause-goes g c f text records start begin own slice ends ran =
         taken = s.0;
         took = s.1;
         done = s.2;
-        listed = listed-then begin c.args.list.now c.list_slice.new.list _ _ _ ran.listed c.in_ok-list_slice.ensures (λ first old new before one.
+        listed = listed-then begin c.args.list.now c.list_slice.new.list _ _ _ ran.listed c.in_ok-list_slice.ensures.listed (λ first old new before one.
             (let r = one first before.0 before.1 in
             let listed = rw (c.as_list-items.ensures.packed, slice.items, c.lines-lines.ensures) at r.2 in
             (before.0 ++ r.0, r.1, own-listed slice own c.args.end.now c.requires ends _ _ c.in_ok-goes_on.ensures.fine before.0 r.0 before.2 listed)));

@@ -5,7 +5,7 @@ use Rattle.jb_csv_job.proofs.next.next_slice.Goals as goal
 pub returns-then-not-is_own-clause-goes : goal.returns-then-not-is_own-clause-goes
 returns-then-not-is_own-clause-goes g c clean functions text up start begin stands =
     let other : is_own c.args.work.now.asked.now.task c.args.number ≡ false = search rules in
-    let slice = c.in_ok-is_last.ensures (g.F.RowFunction.answer (arc_value c.args.function.now)) text up.records c.args.number (read-of up) stands.reads in
+    let slice = c.in_ok-is_last.ensures.read (g.F.RowFunction.answer (arc_value c.args.function.now)) text up.records c.args.number (read-of up) stands.reads in
     record {
       ran = record {
         taken = stands.ran.taken;
@@ -19,11 +19,11 @@ returns-then-not-is_own-clause-goes g c clean functions text up start begin stan
 pub returns-clause-goes : goal.returns-clause-goes
 returns-clause-goes g c clean functions text up start begin stands =
     let own : is_own c.args.work.now.asked.now.task c.args.number ≡ true = search rules in
-    let slice = c.in_ok-is_last.ensures (g.F.RowFunction.answer (arc_value c.args.function.now)) text up.records c.args.number (read-of up) stands.reads in
+    let slice = c.in_ok-is_last.ensures.read (g.F.RowFunction.answer (arc_value c.args.function.now)) text up.records c.args.number (read-of up) stands.reads in
     c.own_slice.ensures.goes clean functions text up start begin (record { has = slice.has; own = own; items = slice.items }) slice stands.ran
 
 pub returns-clause-left : goal.returns-clause-left
 returns-clause-left g c clean functions text up stands =
     let own : is_own c.args.work.now.asked.now.task c.args.number ≡ true = search rules in
-    let slice = c.in_ok-is_last.ensures (g.F.RowFunction.answer (arc_value c.args.function.now)) text up.records c.args.number (read-of up) stands in
+    let slice = c.in_ok-is_last.ensures.read (g.F.RowFunction.answer (arc_value c.args.function.now)) text up.records c.args.number (read-of up) stands in
     c.own_slice.ensures.left clean functions text up (record { has = slice.has; own = own; items = slice.items })

@@ -3,8 +3,8 @@ use Rattle.jb_slices.specs.Job.{first_of}
 use Rattle.jb_csv_job.{specs.Job.{job_record}, proofs.Taking.{slice-read}}
 use Rattle.jb_csv_job.proofs.reading.read_slice.Goals as goal
 
-pub returns : goal.returns
-returns g c f text records number read stands =
+pub returns-clause-read : goal.returns-clause-read
+returns-clause-read g c f text records number read stands =
     let job = job_record c.args.work.now.job.now c.args.work.now.asked.now f in
     let before = take (first_of job.job number) records in
     let gave = c.in_ok-next_rows.ensures in

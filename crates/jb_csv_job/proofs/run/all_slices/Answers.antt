@@ -80,6 +80,7 @@ returns-then-not-more g c =
       listed = λ clean text given functions up.
           has-listed g.L.Sink.took c.args.list.now c.next_slice.new.list c.next_slice.new.tally (gone g here clean text given functions up) stops c.args.work.now.job.now.some_records (read-of up) _ c.end.ensures;
       status = c.end.ensures.status;
+      cause = tt;
       clean = λ clean. c.loop-number.invariant.clean (c.in-Ok.ensures.clean clean);
       left = left g after;
       crash = crash g after;

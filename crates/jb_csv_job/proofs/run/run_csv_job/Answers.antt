@@ -30,7 +30,7 @@ returns g c =
     let copied = λ (bytes : List ℕ) (given : HasGivenRows job.options g.R.Read.remaining c.in_ok-reader.reader bytes []).
     copied-is job.options g.R.Read.remaining c.in_ok-reader.reader bytes [] given in
     let between = c.new-sink.ensures.between in
-    let begun = begun-by results job.options.delimiter c.args.to c.new-sink.result c.write_header.new.self _ between c.new-sink.ensures.nothing c.in_ok-write_header.ensures in
+    let begun = begun-by results job.options.delimiter c.args.to c.new-sink.result c.write_header.new.self _ between c.new-sink.ensures.nothing c.in_ok-write_header.ensures.written in
     let appended = λ (records : List Fields) (taken : HasTaken results c.write_header.new.self c.run_slices.new.sink (given_by job.task (all_results job.function (map packed records)))).
     rw (given-packed job.task job.function records, given-both) at
     (list-written results job.options.delimiter c.args.to c.in_ok-to.to c.write_header.new.self c.run_slices.new.sink (given_by job.task header) _ begun taken c.in_ok-to.ensures.results) in
@@ -45,9 +45,10 @@ returns g c =
       by_rules = λ clean. streamed g here (λ functions text. IsByRules job text end.status) (c.in_ok-end.ensures.by_rules clean);
       skips = λ clean. streamed g here (λ functions text. end.status ≡ 0 → HasSkipped job text end.skips) (c.in_ok-end.ensures.skips clean);
       listed = λ clean. streamed g here (λ functions text. IfListed c.args.list c.in_ok-to.listed (λ old new. IsListWritten job text (rows old) (rows new) end.status end.skips)) (λ bytes given functions up.
-          list-whole rows job bytes header end.status end.skips c.args.list c.in_ok-listing.listing c.run_slices.new.list c.in_ok-to.listed (copied bytes given) c.in_ok-listing.ensures
+          list-whole rows job bytes header end.status end.skips c.args.list c.in_ok-listing.listing c.run_slices.new.list c.in_ok-to.listed (copied bytes given) c.in_ok-listing.ensures.begun
           (c.in_ok-end.ensures.listed clean bytes given functions up) c.in_ok-to.ensures.list);
       status = c.in_ok-end.ensures.status;
+      cause = tt;
       clean = c.in_ok-end.ensures.clean;
       left = left g here;
       crash = c.in_ok-end.ensures.crash;

@@ -3,8 +3,8 @@ use Rattle.jb_rows.specs.Texts.{copied_by}
 use Rattle.jb_csv_job.{specs.Sinks.{taken_none}, specs.Skipped.{skipped_header}, proofs.Writing.{begun-by}}
 use Rattle.jb_csv_job.proofs.skipped.begin_list.Goals as goal
 
-pub returns-in-Ok : goal.returns-in-Ok
-returns-in-Ok g c =
+pub returns-in-Ok-clause-begun : goal.returns-in-Ok-clause-begun
+returns-in-Ok-clause-begun g c =
     let options = c.args.job.now.options in
     let blank = c.new-list.result in
     let rows = c.in_ok-rows.ensures ∙ ap (λ kept. map skipped_header (copied_by options.header kept)) c.header.ensures.kept in

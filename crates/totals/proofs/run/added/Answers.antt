@@ -43,7 +43,7 @@ returns-clause-listed g c clean =
     AreSkipsListed c.args.prices c.args.stamp.now c.args.asked.now text (g.S.Write.contents old) (g.S.Write.contents new) c.in_ok-end.end.status c.in_ok-end.end.skips))
     c.in_ok-reader.ensures.given (λ bytes given functions up.
     list-whole g.S.Write.contents job bytes [] c.in_ok-end.end.status c.in_ok-end.end.skips c.args.list c.in_ok-listing.listing c.run_slices.new.list c.in_ok-listed.listed
-    (copied-is totals_options g.R.Read.remaining c.in_ok-reader.reader bytes [] given) c.in_ok-listing.ensures (c.in_ok-end.ensures.listed clean bytes given functions up) c.in_ok-listed.ensures)
+    (copied-is totals_options g.R.Read.remaining c.in_ok-reader.reader bytes [] given) c.in_ok-listing.ensures.begun (c.in_ok-end.ensures.listed clean bytes given functions up) c.in_ok-listed.ensures.kept)
 
 pub returns-clause-all : goal.returns-clause-all
 returns-clause-all g c clean functions taken zero =
