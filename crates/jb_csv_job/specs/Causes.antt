@@ -1,5 +1,5 @@
--- WHY A RUN OF A JOB HAS NO ANSWER: which refusals it may give, and what holds if it gives one. Nothing is said here of why a slice's file or its
--- run is refused.
+-- WHY A RUN OF A JOB HAS NO ANSWER: which refusals it may give, and what holds if it gives one. Nothing is said here of why a slice's file, its
+-- run or the records are refused, or of how many there are.
 use Rattle.std.specs.Prelude.{◌≡◌, ◌⊎◌, List, ℕ, Some, codes, option_map, string_bytes, unwrap_or, ⊤}
 use Rattle.jb_csv_job.specs.Asking.{AreAsMany}
 use Rattle.jb_csv_job.specs.declared.asked.Asked.{Asked}
@@ -18,8 +18,8 @@ IsListError asked (failure.Rows error) = ⊤
 IsListError asked failure.Memory = ⊤
 IsListError asked _ = ⊥
 
--- a run that is asked for so has no answer: never for its arguments or its folder; `NotWhole` only if slices are collected, and `Records` only if
--- another number of records is asked for than is read
+-- a run that is asked for so has no answer: never for its arguments or its folder; `NotWhole` only if slices are collected, and `Records` only with
+-- the number that is asked for, and another one beside it
 abbrev pub IsRunError : Asked → CsvJobError → Type 0
 IsRunError asked (failure.NotWhole number) = asked.task ≡ Collect
 IsRunError asked (failure.Records most read is_end) = (asked.records ≡ Some most) × (AreAsMany asked.records read is_end → ⊥)

@@ -1,6 +1,6 @@
 //! What the command line of a job asks for.
 
-ghost use Rattle.std.specs.Prelude.{◌≤◌, IfErr, OnOk};
+ghost use Rattle.std.specs.Prelude.{◌≡◌, ◌≤◌, ℕ, Some, IfErr, OnOk};
 ghost use Rattle.jb_base.specs.Limits.{max_threads};
 ghost use Rattle.jb_csv_job.specs.Asking.{AreAsMany, IsInParts};
 
@@ -62,6 +62,7 @@ pub enum Request {
 
 impl Asked {
     ghost use Rattle.jb_csv_job.specs.Causes.{IsRunError};
+    ghost use Rattle.jb_csv_job.specs.declared.failure.CsvJobError.TheVariants.{Records};
 
     /// Refuses another number of records than `--records` says, once so many are read, up to the end of the input or not.
     ///
@@ -70,6 +71,7 @@ impl Asked {
     pub fn refuse_other_number(&self, read: u64, is_end: bool) -> Result<(), CsvJobError>
         ensures same { OnOk result (AreAsMany self.now.records read is_end) }
         ensures other { IfErr result (λ _. AreAsMany self.now.records read is_end → ⊥) }
+        ensures named { IfErr result (λ e. (most : ℕ) × (self.now.records ≡ Some most) × (e ≡ Records most read is_end)) }
         ensures cause { IfErr result (IsRunError self.now) }
     {
         let Some(asked) = self.records else {
