@@ -17,6 +17,7 @@ mod writer;
 
 use jb_base::{MAX_RECORDS, PackedList};
 use jb_collect::Status;
+use jb_files::hold_closed_streams;
 use jb_rows::{Rows, RowsError, RowsOptions, RowsReader, RowsWriter};
 use std::alloc::Global;
 use std::io::{self, Read, Write};
@@ -58,6 +59,7 @@ fn tell_skips(rt: &HostRuntime, artifacts: &BillArtifacts) -> io::Result<()> {
 }
 
 fn main(rt: HostRuntime) -> io::Result<ExitCode> {
+    hold_closed_streams(&rt);
     let alloc = rt.alloc();
     let usage = match usage_in(alloc, rt.stdin()) {
         Ok(Some(usage)) => usage,

@@ -1,5 +1,5 @@
 -- A job's command line, as `clap` takes it.
-use Rattle.std.{proofs.Common.{[], ◌∷◌, map, length, slice_index_or, arith, ◌≡◌, ◌∙◌, refl, ap, subst, subst₂, true, List, Option, Some, None, inl, inr, ◌≢◌}, specs.Borrow.{Bor}}
+use Rattle.std.proofs.Common.{◌≡◌, ◌∙◌, refl, ap, subst, subst₂, true, List, Option, Some, None, inl, inr, ◌≢◌}
 use mathlib.Core.Path.{fun_ext}
 use Rattle.clap.{proofs.WalkLemmas.{first_value-rows, raw_values-rows}, specs.Words.{HasKind, IsAmong, Text, all_of, first_of, found_of, is_simple, is_simple_and_free, kind_of, matches_of, rows_of}}
 use Rattle.clap.specs.declared.{error.Error.{Error}, error.kind.ErrorKind.{ErrorKind}, error.kind.ErrorKind.TheVariants.{OutOfMemory}, parser.matches.ArgMatches.{ArgMatches}}
@@ -46,10 +46,3 @@ refused-by name own words (failure.Words fault.NoFolder) wrong = wrong
 refused-by name own words (failure.Words fault.NoText) wrong = wrong
 refused-by name own words failure.Memory wrong = tt
 refused-by name own words e wrong = absurd wrong
-
--- two words
-pub two-words : (words : List (Bor Text)) (d : Bor Text) → length words ≡ 2 → map (λ w. w.now) words ≡ (slice_index_or words 0 d).now ∷ (slice_index_or words 1 d).now ∷ []
-two-words [] d two = cc
-two-words (x ∷ []) d two = cc
-two-words (x ∷ y ∷ []) d two = refl
-two-words (x ∷ y ∷ z ∷ more) d two = absurd (omega (arith, two))

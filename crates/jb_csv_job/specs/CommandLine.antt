@@ -1,5 +1,5 @@
 -- THE COMMAND LINE OF A JOB, `[OPTIONS] FOLDER`, and what it asks for (own choice).
-use Rattle.std.specs.Prelude.{◌≡◌, ◌≢◌, ◌⊎◌, ◌-◌, ◌^◌, Bool, true, false, List, [], ◌∷◌, map, is_some, Option, Some, None, option_map, option_and_then, codes, string_bytes, IfSome, ⊤, unwrap_or}
+use Rattle.std.specs.Prelude.{◌≡◌, ◌≢◌, ◌⊎◌, ◌-◌, ◌^◌, Bool, true, false, List, [], map, is_some, Option, Some, None, option_map, option_and_then, codes, string_bytes, IfSome, ⊤, unwrap_or}
 use Rattle.std.specs.Option.{option_map_or}
 use Rattle.std.specs.Str.{bytes_eq}
 use Rattle.clap.specs.Words.{App, IsAmong, Rule, Text, all_of, fault_of, first_of, matches_of, new_app, new_rule, with_rule}
@@ -13,7 +13,6 @@ use Rattle.jb_csv_job.specs.declared.failure.CsvJobError.{CsvJobError}
 use Rattle.jb_csv_job.specs.declared.failure.CsvJobError.TheVariants as failure
 use Rattle.jb_csv_job.specs.declared.failure.WordsFault.{WordsFault}
 use Rattle.jb_csv_job.specs.declared.failure.WordsFault.TheVariants as fault
-use Rattle.jb_rows.specs.Numbers.{number_of}
 
 -- ---- the options that there are
 
@@ -97,12 +96,7 @@ AskFor name own words asked = (fault_of (job_app name own) words ≡ []) × IsLi
 abbrev pub AskForText : (name : Text) → (own : Option Text) → (words : List Text) → Type 0
 AskForText name own words = IsAmong DisplayHelp (fault_of (job_app name own) words) ⊎ IsAmong DisplayVersion (fault_of (job_app name own) words)
 
--- THREADS FILE, the form of an earlier version
-abbrev pub IsOldForm : List Text → (threads : Text) → Type 0
-IsOldForm words threads = (file : Text) × (words ≡ threads ∷ file ∷ []) × (is_some (number_of threads) ≡ true)
-
--- WHY THEY ARE REFUSED: they are of the old form; `clap` finds a mistake; or it takes them, and a value is wrong
+-- WHY THEY ARE REFUSED: `clap` finds a mistake, or it takes them, and a value is wrong
 abbrev pub AreRefused : (name : Text) → (own : Option Text) → (words : List Text) → CsvJobError → Type 0
-AreRefused name own words (failure.Words (fault.OldForm threads)) = IsOldForm words (string_bytes threads)
 AreRefused name own words (failure.Words (fault.Wrong text)) = (kind : ErrorKind) × IsAmong kind (fault_of (job_app name own) words) × (kind ≢ DisplayHelp) × (kind ≢ DisplayVersion)
 AreRefused name own words e = IsWrong (first_at name own words) e

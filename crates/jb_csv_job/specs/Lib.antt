@@ -17,3 +17,4 @@ pub mod Slices
 pub mod Standing
 pub mod Statuses
 pub mod Tasks
+pub mod Watched

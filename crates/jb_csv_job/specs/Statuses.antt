@@ -1,5 +1,6 @@
 -- THE EXIT STATUS IF A JOB HAS NO ANSWER. It is 2 if the job was stopped. It is 3 if it refuses what it was given, and the same line won't help. It
--- is 4 if the same line helps later: no memory, no worker, no room, a busy file, a stream that failed. It is 5 if the arguments are wrong.
+-- is 4 if the same line helps later: no memory, no worker, no room, a busy file, a stream that failed. It is 5 if the arguments are wrong, or a stream
+-- that is needed is closed.
 use Rattle.std.specs.Prelude.{ℕ}
 use Rattle.jb_csv_job.specs.declared.failure.CsvJobError.{CsvJobError}
 use Rattle.jb_csv_job.specs.declared.failure.CsvJobError.TheVariants as failure
@@ -56,16 +57,20 @@ rows_status _ = 3
 
 abbrev pub folder_status : FolderFault → ℕ
 folder_status folder.NotAFolder = 3
+folder_status folder.History = 3
 folder_status (folder.CannotMake error) = 4
 
 abbrev pub output_status : OutputFault → ℕ
 output_status output.NotAFile = 3
 output_status output.Busy = 4
+output_status output.Changed = 4
 output_status (output.CannotWrite error) = 4
+output_status (output.NotSynced error) = 4
 
 abbrev pub failure_status : CsvJobError → ℕ
 failure_status (failure.Words fault) = 5
 failure_status (failure.Folder fault) = folder_status fault
+failure_status (failure.NotAFile number) = 3
 failure_status (failure.File number error) = store_status error
 failure_status (failure.Slice number error) = run_status error
 failure_status (failure.NotWhole number) = 3

@@ -15,7 +15,7 @@ const STATUSES: &str = "Exit status:
   2  stopped, by the file FOLDER/stop: remove it, and type the same line again
   3  refused: another job, other records or a changed file; the same line won't help
   4  no memory, no thread, no room, a busy file or a failed stream: type the same line again later
-  5  the words are wrong";
+  5  the words are wrong, or a stream is closed";
 
 /// What the program says of itself, beside its options.
 #[derive(Clone, Copy)]

@@ -72,7 +72,7 @@ fn note_end(host: &HostRuntime, folder: &str, status: u8) {
 
 /// The exit status of a job's answer: 0 if it is COMPLETED, and 1 if it FAILED. Without an answer it is 2, 3, 4 or 5 (`failure_status`). A line
 /// on standard error says which it is, why, and what to type next. `folder` is FOLDER, or empty if the arguments weren't read. Its history says
-/// that the run ends.
+/// that the run ends, unless the line is wrong: then no run began.
 pub fn exit_code<T: Eprint + Host>(
     rt: &T,
     job: &CsvJob,
@@ -106,7 +106,6 @@ pub fn exit_code<T: Eprint + Host>(
                 report_reason(rt, folder, *slice);
             }
             let text = CsvJobErrorText {
-                name: job.name,
                 input: job.input,
                 records: job.records,
                 folder,
@@ -114,7 +113,9 @@ pub fn exit_code<T: Eprint + Host>(
             };
             let _told = eprintln!(rt; "{text}");
             let status = failure_status(&failure);
-            note_end(rt.host(), folder, status);
+            if !matches!(&failure, CsvJobError::Words(_)) {
+                note_end(rt.host(), folder, status);
+            }
             ExitCode::from(status)
         }
     }

@@ -10,11 +10,9 @@ use std::alloc::{AllocError, AllocFailed};
 use std::io;
 use thiserror::Error;
 
-/// What is wrong with the arguments of the command line.
+/// What is wrong with the arguments of the command line, or with the streams that it gives.
 #[derive(Debug, Drop)]
 pub enum WordsFault {
-    /// They are those of an earlier version, THREADS FILE. This is the first one.
-    OldForm(String),
     /// The value of `--threads` is no number from 1 to 64.
     Threads(String),
     /// The value of `--records` is no number below 2^64.
@@ -31,6 +29,12 @@ pub enum WordsFault {
     NoText,
     /// `clap` refuses them: its own text.
     Wrong(String),
+    /// They name one file where the job needs two: what the other one is.
+    SameFile { path: String, other: String },
+    /// Standard input is closed.
+    ClosedInput,
+    /// Standard output is closed, and something is to be written there.
+    ClosedOutput,
 }
 
 /// Why FOLDER isn't taken.
@@ -38,6 +42,8 @@ pub enum WordsFault {
 pub enum FolderFault {
     /// There is something else of that name.
     NotAFolder,
+    /// Its history is no regular file.
+    History,
     /// It can't be made, or looked at.
     CannotMake(io::Error),
 }
@@ -49,8 +55,12 @@ pub enum OutputFault {
     NotAFile,
     /// Another process is writing it.
     Busy,
+    /// Another process changed PATH.part while it was written.
+    Changed,
     /// A call of the system failed.
     CannotWrite(io::Error),
+    /// It is whole and has its name. But the folder can't be synced, so a power cut may take the name away.
+    NotSynced(io::Error),
 }
 
 /// Why there is no answer. What the files of the slices hold stays, so a later call resumes the job.
@@ -62,6 +72,9 @@ pub enum CsvJobError {
     /// FOLDER isn't taken.
     #[error("the folder isn't taken")]
     Folder(FolderFault),
+    /// The file of a slice, or its log, is no regular file.
+    #[error("the file of slice {slice} is no regular file")]
+    NotAFile { slice: u64 },
     /// The file of a slice isn't opened.
     #[error("slice {slice}: {error}")]
     File { slice: u64, error: StoreError },

@@ -74,7 +74,8 @@ pub(crate) fn failure_status(failure: &CsvJobError) -> u8
 {
     match failure {
         CsvJobError::Words(_) => WRONG_WORDS,
-        CsvJobError::Folder(FolderFault::NotAFolder)
+        CsvJobError::Folder(FolderFault::NotAFolder | FolderFault::History)
+        | CsvJobError::NotAFile { .. }
         | CsvJobError::NotWhole { .. }
         | CsvJobError::Records { .. }
         | CsvJobError::Output {

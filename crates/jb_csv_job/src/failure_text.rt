@@ -9,7 +9,6 @@ use std::fmt;
 /// What is wrong with the arguments of the command line.
 #[derive(Clone, Copy)]
 struct WordsText<'a, 'c> {
-    name: &'a str,
     input: &'a str,
     fault: &'c WordsFault,
 }
@@ -18,15 +17,11 @@ impl<'a, 'c> fmt::Display for WordsText<'a, 'c> {
     ghost use Rattle.std.specs.Prelude.{Some};
     ghost use Rattle.jb_csv_job.specs.Failures.{words_text};
 
-    ghost output = { λ text. Some (words_text text.name.now text.input.now text.fault.now) };
+    ghost output = { λ text. Some (words_text text.input.now text.fault.now) };
 
     fn fmt<W: fmt::Write>(&self, f: &mut fmt::Formatter<W>) -> fmt::Result {
-        let (name, input) = (self.name, self.input);
+        let input = self.input;
         match self.fault {
-            WordsFault::OldForm(threads) => write!(
-                f,
-                "Words: THREADS FILE is the form of an earlier version, which kept all checkpoints in one file. Type: {name} --threads {threads} FOLDER < {input}"
-            ),
             WordsFault::Threads(value) => write!(
                 f,
                 "Words: --threads {value}: type a number from 1 to 64."
@@ -48,6 +43,17 @@ impl<'a, 'c> fmt::Display for WordsText<'a, 'c> {
             WordsFault::NoFolder => f.write_str("Words: FOLDER is missing."),
             WordsFault::NoText => f.write_str("Words: a word is no text in UTF-8."),
             WordsFault::Wrong(text) => write!(f, "Words: {text}"),
+            WordsFault::SameFile { path, other } => write!(
+                f,
+                "SameFile: {path} is {other}. Beside each PATH is PATH.part. Name another one."
+            ),
+            WordsFault::ClosedInput => write!(
+                f,
+                "Stream: standard input is closed. Type the same line with < {input}."
+            ),
+            WordsFault::ClosedOutput => f.write_str(
+                "Stream: standard output is closed. Type the same line with --output PATH, or without >&-.",
+            ),
         }
     }
 }
@@ -70,6 +76,10 @@ impl<'b, 'c> fmt::Display for FolderText<'b, 'c> {
             FolderFault::NotAFolder => write!(
                 f,
                 "NotAFolder: {folder} is no folder. Name another FOLDER: it is made if it isn't there."
+            ),
+            FolderFault::History => write!(
+                f,
+                "NotAFile: {folder}/history.jsonl is no regular file. Remove it, or name another FOLDER."
             ),
             FolderFault::CannotMake(error) => write!(
                 f,
@@ -101,6 +111,14 @@ impl<'a> fmt::Display for OutputText<'a> {
             OutputFault::Busy => write!(
                 f,
                 "Busy: another process is writing {path}. Type the same line again when it has ended."
+            ),
+            OutputFault::Changed => write!(
+                f,
+                "Changed: {path}.part was changed by another process. Type the same line again when it has ended."
+            ),
+            OutputFault::NotSynced(error) => write!(
+                f,
+                "NotSynced: {path} is whole, but its folder can't be synced: {error}. Type the same line again, or sync the folder."
             ),
             OutputFault::CannotWrite(error) => write!(
                 f,
@@ -173,8 +191,7 @@ impl<'a> fmt::Display for RecordsText<'a> {
 /// Why a job has no answer, as it is reported: a text that begins with the name of the refusal.
 #[derive(Clone, Copy)]
 pub struct CsvJobErrorText<'a, 'b, 'c> {
-    /// The job's name, and the names of its input and records, as `CsvJob` has them.
-    pub name: &'a str,
+    /// The names of the job's input and records, as `CsvJob` has them.
     pub input: &'a str,
     pub records: &'a str,
     /// FOLDER. It is empty as long as the arguments of the command line aren't read.
@@ -185,19 +202,26 @@ pub struct CsvJobErrorText<'a, 'b, 'c> {
 impl<'a, 'b, 'c> fmt::Display for CsvJobErrorText<'a, 'b, 'c> {
     ghost use Rattle.jb_csv_job.specs.Failures.{job_failure_text};
 
-    ghost output = { λ text. job_failure_text text.name.now text.input.now text.records.now text.folder.now text.failure.now };
+    ghost output = { λ text. job_failure_text text.input.now text.records.now text.folder.now text.failure.now };
 
     fn fmt<W: fmt::Write>(&self, f: &mut fmt::Formatter<W>) -> fmt::Result {
         let CsvJobErrorText {
-            name,
             input,
             records,
             folder,
             failure,
         } = *self;
         match failure {
-            CsvJobError::Words(fault) => write!(f, "{}", WordsText { name, input, fault }),
+            CsvJobError::Words(fault) => write!(f, "{}", WordsText { input, fault }),
             CsvJobError::Folder(fault) => write!(f, "{}", FolderText { folder, fault }),
+            CsvJobError::NotAFile { slice } => write!(
+                f,
+                "NotAFile: slice {slice}, {}: the file or its log is no regular file. Remove it, or name another FOLDER.",
+                SlicePath {
+                    folder,
+                    slice: *slice
+                }
+            ),
             CsvJobError::File { slice, error } => write!(
                 f,
                 "{}",

@@ -1,10 +1,10 @@
 //! The history of a folder's runs.
 
 use jb_answers::FaultClass;
+use jb_files::{FileFault, open_to_append};
 use jb_slice_run::Fault;
 use std::alloc::{AllocError, Global};
 use std::fmt;
-use std::fs::File;
 use std::io::Write;
 use std::time::Clock;
 
@@ -90,6 +90,21 @@ pub(crate) fn skips_by_class(
     Ok(counts)
 }
 
+fn history_path(alloc: Global, folder: &str) -> Result<String, AllocError> {
+    format!(in alloc; "{folder}/history.jsonl")
+}
+
+/// Whether something has the name of FOLDER's history and is no regular file.
+pub(crate) fn is_no_history(host: &HostRuntime, folder: &str) -> bool {
+    match history_path(host.alloc(), folder) {
+        Ok(path) => matches!(
+            open_to_append(host, path.as_str()),
+            Err(FileFault::NotAFile)
+        ),
+        Err(_) => false,
+    }
+}
+
 /// Appends a line to FOLDER/history.jsonl, by one write: the seconds since 1970, and the event. Runs that write at once don't mix their lines. If
 /// it can't be written, nothing else changes.
 pub(crate) fn note(host: &HostRuntime, folder: &str, event: &Event<'_>) {
@@ -97,17 +112,13 @@ pub(crate) fn note(host: &HostRuntime, folder: &str, event: &Event<'_>) {
     let Ok(now) = host.since_1970() else {
         return;
     };
-    let Ok(path) = format!(in alloc; "{folder}/history.jsonl") else {
+    let Ok(path) = history_path(alloc, folder) else {
         return;
     };
     let Ok(line) = format!(in alloc; "{{\"clock\":{},{event}}}\n", now.as_secs()) else {
         return;
     };
-    let Ok(file) = File::options()
-        .append(true)
-        .create(true)
-        .open(host, path.as_str())
-    else {
+    let Ok(file) = open_to_append(host, path.as_str()) else {
         return;
     };
     let mut file = file;

@@ -5,7 +5,7 @@ use crate::exit::exit_code;
 use crate::failure::CsvJobError;
 use crate::host::Host;
 use crate::job::CsvJob;
-use crate::keeper::Drops;
+use crate::keeper::Watches;
 use crate::opening::ready_folder;
 use crate::output::Output;
 use crate::run::{JobEnd, run_csv_job};
@@ -25,15 +25,15 @@ fn answer_of<
     T: Threads + Wait + Clock + Eprint + Host + Copy + Send + Sync + 'static,
 >(rt: &T, job: &CsvJob, asked: &Asked, function: F) -> Result<JobEnd, CsvJobError> {
     let host = rt.host();
-    ready_folder(host, asked.folder.as_str())?;
+    ready_folder(host, asked)?;
     let path = match &asked.output {
         Some(path) => Some(path.as_str()),
         None => None,
     };
     let output = Output::open(host, path)?;
     let list = open_list(host, asked)?;
-    let mut keeper = Drops;
-    let (end, output, list) = run_csv_job::<F, T, Brand, Drops, Stdin, Output, Output>(
+    let mut keeper = Watches::new();
+    let (end, output, list) = run_csv_job::<F, T, Brand, Watches, Stdin, Output, Output>(
         rt,
         job,
         asked,

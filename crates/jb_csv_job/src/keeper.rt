@@ -1,13 +1,17 @@
 //! Who gets the files of a slice once its connection is closed.
 
-ghost use Rattle.std.specs.Prelude.{◌≡◌, ◌≢◌, ℕ, Bool, false, List, IsTrue};
+ghost use Rattle.std.specs.Prelude.{◌≡◌, ◌≢◌, ℕ, Bool, List, [], IsTrue};
 ghost use Rattle.sqlite_wal.specs.Files.{outcomes};
-ghost use Rattle.sqlite_wal.specs.Reads.{AreClean};
+ghost use Rattle.sqlite_wal.specs.Reads.{AreClean, are_clean as are_clean_files};
 ghost use Rattle.sqlite_wal.specs.Recovery.{Image};
+ghost use Rattle.jb_csv_job.specs.Watched.{unclean_after};
 
+use boxcar::tag::{Names, Tag};
 use jb_base::PackedList;
 use sqlite::Files;
 use sqlite_disk::Disk;
+use std::marker::Model;
+use std::mem;
 
 /// Who gets the files of a slice once its connection is closed. Only the files at the end of a call say whether a disk gave back the bytes
 /// that were written to it, and what a crash leaves of them.
@@ -25,16 +29,62 @@ pub trait Keeper {
         ensures others { (k : ℕ) (read : List (List ℕ)) (image : Image) → k ≢ number → may_leave self.new k read image → may_leave self.old k read image };
 }
 
-/// Drops them. Nothing is known of their disks.
-#[derive(Clone, Copy, Debug)]
-pub struct Drops;
+/// Drops the files, and watches them: for clauses alone it remembers each slice whose files gave back other bytes than were written. A contract sees
+/// the numbers of those slices. What a crash leaves isn't remembered.
+#[derive(Drop)]
+pub struct Watches {
+    unclean: Tag,
+}
 
-impl Keeper for Drops {
-    ghost use Rattle.std.specs.Prelude.{false};
+impl Model for Watches {
+    ghost use Rattle.std.specs.Prelude.{ℕ, List};
 
-    ghost are_clean = { λ _. false };
+    ghost Value = { List ℕ };
+
+    ghost view = { λ it. it.unclean.numbers };
+}
+
+impl Watches {
+    /// It was given no files yet.
+    pub fn new() -> Watches
+        ensures { result ≡ [] }
+    {
+        Watches {
+            unclean: Tag::empty(),
+        }
+    }
+}
+
+/// The files of a slice, and the slices before it whose files weren't clean.
+#[derive(Drop)]
+struct ClosedSlice<D: Disk + Drop> {
+    number: u64,
+    files: Files<D>,
+    unclean: Tag,
+}
+
+/// What is remembered of them.
+struct Unclean;
+
+impl<D: Disk + Drop> Names<ClosedSlice<D>> for Unclean {
+    ghost numbers = { λ it. unclean_after it.unclean.numbers it.number (are_clean_files D.Disk it.files.log it.files.db) };
+}
+
+impl Keeper for Watches {
+    ghost use Rattle.std.specs.Prelude.{◌==◌, length};
+
+    ghost are_clean = { λ unclean. length unclean == 0 };
 
     ghost may_leave = { λ _ _ _ _. ⊥ };
 
-    fn keep<D: Disk + Drop>(&mut self, _number: u64, _items: &PackedList, _files: Files<D>) {}
+    fn keep<D: Disk + Drop>(&mut self, number: u64, _items: &PackedList, files: Files<D>)
+        ensures watched { self.new ≡ unclean_after self.old number (are_clean_files D.Disk files.log files.db) }
+    {
+        let closed = ClosedSlice {
+            number,
+            files,
+            unclean: mem::replace(&mut self.unclean, Tag::empty()),
+        };
+        self.unclean = Tag::of::<ClosedSlice<D>, Unclean>(&closed);
+    }
 }

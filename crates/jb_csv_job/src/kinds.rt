@@ -1,7 +1,9 @@
 //! Files of another kind, which are recognized before they are opened.
 
 use crate::folder::is_missing;
+use jb_files::is_other;
 use jb_slice_file::StoreError;
+use std::alloc::AllocError;
 use std::fs::File;
 use std::io::Read;
 
@@ -16,6 +18,12 @@ const TABLE: &[u8] = b"CREATE TABLE checkpoint ";
 
 /// How long a page is at most.
 const LONGEST_PAGE: u64 = 65_536;
+
+/// Whether a slice's file or its log is a folder, a device or a pipe. An open of a pipe may wait for ever.
+pub(crate) fn is_no_file(host: &HostRuntime, path: &str) -> Result<bool, AllocError> {
+    let log = format!(in host.alloc(); "{path}-wal")?;
+    Ok(is_other(host, path) || is_other(host, log.as_str()))
+}
 
 /// The first bytes of a file, as many as its first page may have. None if they can't be read.
 fn first_bytes(host: &HostRuntime, path: &str) -> Option<Vec<u8>> {

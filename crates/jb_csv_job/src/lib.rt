@@ -57,7 +57,7 @@ pub use host::Host;
 pub use jb_answers::{Fate, FaultClass};
 pub use job::{CsvJob, DEFAULT_SLICE_LENGTH};
 pub use job_main::run_job;
-pub use keeper::{Drops, Keeper};
+pub use keeper::{Keeper, Watches};
 pub use laws::crashes_are_resumed;
 pub use opening::ready_folder;
 pub use output::Output;

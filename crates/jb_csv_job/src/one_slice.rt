@@ -27,7 +27,7 @@ use crate::failure::CsvJobError;
 use crate::folder::{is_missing, slice_path};
 use crate::host::Host;
 use crate::keeper::Keeper;
-use crate::kinds::other_kind;
+use crate::kinds::{is_no_file, other_kind};
 use crate::meter::Meter;
 use crate::progress::StderrProgress;
 use crate::stopping::is_stopped;
@@ -189,6 +189,9 @@ fn opened<S: Start>(
     let path = slice_path(host.alloc(), folder, number)?;
     if is_collected(work) && is_missing(host, path.as_str()) {
         return Err(CsvJobError::NotWhole { slice: number });
+    }
+    if is_no_file(host, path.as_str())? {
+        return Err(CsvJobError::NotAFile { slice: number });
     }
     if let Some(error) = other_kind(host, path.as_str()) {
         return Err(CsvJobError::File {

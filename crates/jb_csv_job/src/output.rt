@@ -4,9 +4,9 @@ ghost use Rattle.std.specs.Prelude.{◌≡◌};
 ghost use Rattle.jb_csv_job.specs.declared.failure.OutputFault.TheVariants.{CannotWrite};
 
 use crate::failure::{CsvJobError, OutputFault};
+use jb_files::{FileFault, is_named, is_other, open_to_append};
 use std::fs::{File, TryLockError};
 use std::io::{ErrorKind, Stdout, Write};
-use std::os::unix::fs::MetadataExt;
 use std::path::Path;
 use std::{fs, io};
 
@@ -25,6 +25,8 @@ struct PartFile {
     /// The name that it gets, and the one that it has: PATH and PATH.part.
     path: String,
     part: String,
+    /// How many bytes were written to it.
+    length: u64,
 }
 
 #[derive(Drop)]
@@ -40,28 +42,22 @@ pub struct Output {
     to: Target,
 }
 
-/// Refuses what is there and is no regular file: a folder, a device, a pipe.
-fn refuse_other(host: &HostRuntime, path: &str) -> Result<(), OutputFault> {
-    match fs::metadata(host, path) {
-        Ok(found) if found.is_file() => Ok(()),
-        Ok(_) => Err(OutputFault::NotAFile),
-        Err(error) if error.kind() == ErrorKind::NotFound => Ok(()),
-        Err(error) => Err(OutputFault::CannotWrite(error)),
-    }
-}
-
-/// PATH.part, open and empty. No other process that writes it so has it open.
-fn opened(host: &HostRuntime, path: &str, part: &str) -> Result<File, OutputFault> {
-    refuse_other(host, path)?;
-    refuse_other(host, part)?;
-    let file = File::options().write(true).create(true).open(host, part)?;
+/// PATH.part, open and empty. No other process that writes it so has it open. What is written comes to its end, so its length is another one if it
+/// is cut meanwhile.
+fn opened(host: &HostRuntime, part: &str) -> Result<File, OutputFault> {
+    let file = match open_to_append(host, part) {
+        Ok(file) => file,
+        Err(FileFault::NotAFile) => return Err(OutputFault::NotAFile),
+        Err(FileFault::Changing) => return Err(OutputFault::Busy),
+        Err(FileFault::System(error)) => return Err(OutputFault::CannotWrite(error)),
+    };
     match file.try_lock() {
         Ok(()) => {}
         Err(TryLockError::WouldBlock) => return Err(OutputFault::Busy),
         Err(TryLockError::Error(error)) => return Err(OutputFault::CannotWrite(error)),
     }
     // Another process may have renamed it before it was locked.
-    if file.metadata()?.ino() != fs::metadata(host, part)?.ino() {
+    if !is_named(host, part, &file)? {
         return Err(OutputFault::Busy);
     }
     file.set_len(0)?;
@@ -88,17 +84,42 @@ impl PartFile {
         let alloc = host.alloc();
         let part = format!(in alloc; "{path}.part")?;
         let path = path.to_string(alloc)?;
-        match opened(host, path.as_str(), part.as_str()) {
-            Ok(file) => Ok(PartFile { file, path, part }),
+        if is_other(host, path.as_str()) {
+            let why = OutputFault::NotAFile;
+            return Err(CsvJobError::Output { path, why });
+        }
+        match opened(host, part.as_str()) {
+            Ok(file) => Ok(PartFile {
+                file,
+                path,
+                part,
+                length: 0,
+            }),
+            Err(OutputFault::NotAFile) => Err(CsvJobError::Output {
+                path: part,
+                why: OutputFault::NotAFile,
+            }),
             Err(why) => Err(CsvJobError::Output { path, why }),
         }
     }
 
+    /// Whether PATH.part is this file, with all that was written to it.
+    fn is_whole(&self, host: &HostRuntime) -> io::Result<bool> {
+        let is_long = self.file.metadata()?.len() == self.length;
+        Ok(is_long && is_named(host, self.part.as_str(), &self.file)?)
+    }
+
     /// Syncs it, and renames it to PATH.
-    fn put_in_place(&self, host: &HostRuntime) -> io::Result<()> {
+    fn put_in_place(&self, host: &HostRuntime) -> Result<(), OutputFault> {
         self.file.sync_all()?;
+        if !self.is_whole(host)? {
+            return Err(OutputFault::Changed);
+        }
         fs::rename(host, self.part.as_str(), self.path.as_str())?;
-        sync_folder(host, self.path.as_str())
+        match sync_folder(host, self.path.as_str()) {
+            Ok(()) => Ok(()),
+            Err(error) => Err(OutputFault::NotSynced(error)),
+        }
     }
 }
 
@@ -106,7 +127,7 @@ impl Output {
     /// Standard output, or PATH.part, which is made, and emptied if it is there.
     ///
     /// # Errors
-    /// `Output`: PATH is no regular file; another process writes it so; or it can't be written. `Memory`.
+    /// `Output`: PATH or PATH.part is no regular file; another process writes it so; or it can't be written. `Memory`.
     pub fn open(host: &HostRuntime, path: Option<&str>) -> Result<Output, CsvJobError> {
         let to = match path {
             None => Target::Standard(host.stdout()),
@@ -119,14 +140,14 @@ impl Output {
     /// again.
     ///
     /// # Errors
-    /// `Output`.
+    /// `Output`: another process changed PATH.part; or it can't be synced or renamed. With `NotSynced` PATH is whole.
     pub fn close(self, host: &HostRuntime, is_completed: bool) -> Result<(), CsvJobError> {
         match self.to {
             Target::File(file) if is_completed => match file.put_in_place(host) {
                 Ok(()) => Ok(()),
-                Err(error) => Err(CsvJobError::Output {
+                Err(why) => Err(CsvJobError::Output {
                     path: file.path,
-                    why: OutputFault::CannotWrite(error),
+                    why,
                 }),
             },
             _ => Ok(()),
@@ -138,7 +159,11 @@ impl Write for Output {
     fn write(&mut self, buf: &[u8]) -> io::Result<usize> {
         match &mut self.to {
             Target::Standard(to) => to.write(buf),
-            Target::File(to) => to.file.write(buf),
+            Target::File(to) => {
+                let count = to.file.write(buf)?;
+                to.length = to.length.saturating_add(count as u64);
+                Ok(count)
+            }
         }
     }
 

@@ -1,11 +1,11 @@
 //! The arguments of the command line.
 
-ghost use Rattle.std.specs.Prelude.{◌≡◌, ◌≤◌, map, option_map, IfErr, IfOk, IfSome};
+ghost use Rattle.std.specs.Prelude.{◌≡◌, ◌≤◌, map, option_map, IfErr, IfOk};
 ghost use Rattle.jb_base.specs.Limits.{max_threads};
-ghost use Rattle.jb_csv_job.specs.CommandLine.{AreRefused, IsOldForm};
+ghost use Rattle.jb_csv_job.specs.CommandLine.{AreRefused};
 ghost use Rattle.jb_csv_job.specs.Parsing.{IsAnswer};
 
-use crate::asked::{Asked, OwnOption, Request};
+use crate::asked::{Asked, OwnOption, Request, Task};
 use crate::command::{About, command};
 use crate::failure::{CsvJobError, WordsFault};
 use crate::host::Host;
@@ -14,8 +14,8 @@ use crate::line::asked_in;
 use crate::work::texts_of;
 use clap::error::ErrorKind;
 use jb_base::MAX_THREADS;
+use jb_files::{ClosedStreams, hold_closed_streams};
 use jb_rows::RowsError;
-use jb_rows::numbers::number_of;
 use std::alloc::{AllocError, Global};
 use std::env::Args;
 use std::thread::Threads;
@@ -30,17 +30,6 @@ pub(crate) enum Parsed {
     Job(Asked),
     /// The help or the version, to be printed.
     Text(clap::Error),
-}
-
-/// The argument for the threads, if the arguments are those of an earlier version, THREADS FILE.
-fn old_form<'a>(words: &[&'a str]) -> Option<&'a str>
-    ensures { IfSome result (λ threads. IsOldForm (map (λ w. w.now) words.now) threads.now) }
-{
-    if words.len() == 2 && number_of(words[0].as_bytes()).is_some() {
-        Some(words[0])
-    } else {
-        None
-    }
 }
 
 fn own_name<'a>(own: Option<OwnOption<'a>>) -> Option<&'a str>
@@ -65,9 +54,6 @@ pub(crate) fn parse_words<'a>(
     ensures asks { IfOk result (IsAnswer about.now.name.now (option_map (λ o. o.name.now) own.entry) (map (λ w. w.now) words.now)) }
     ensures refused { IfErr result (AreRefused about.now.name.now (option_map (λ o. o.name.now) own.entry) (map (λ w. w.now) words.now)) }
 {
-    if let Some(threads) = old_form(words) {
-        return Err(CsvJobError::Words(WordsFault::OldForm(threads.to_string(alloc)?)));
-    }
     let command = command(alloc, about, own)?;
     match command.try_get_matches_from(words) {
         Ok(matches) => {
@@ -170,16 +156,40 @@ fn asked_by<T: Threads + Host>(
     parse_words(alloc, &about, own_option(&own), processors(rt), &words)
 }
 
-/// What the arguments of the process ask for. Help and version are printed on standard output.
+/// Whether results are written on standard output.
+fn needs_output(asked: &Asked) -> bool {
+    asked.output.is_none() && !matches!(asked.task, Task::Part { .. })
+}
+
+/// Refuses a stream that is needed and closed.
+fn refuse_closed(closed: ClosedStreams, parsed: &Parsed) -> Result<(), CsvJobError> {
+    let (needs_input, needs_output) = match parsed {
+        Parsed::Job(asked) => (true, needs_output(asked)),
+        Parsed::Text(_) => (false, true),
+    };
+    if closed.input && needs_input {
+        return Err(CsvJobError::Words(WordsFault::ClosedInput));
+    }
+    if closed.output && needs_output {
+        return Err(CsvJobError::Words(WordsFault::ClosedOutput));
+    }
+    Ok(())
+}
+
+/// What the arguments of the process ask for. Help and version are printed on standard output. Call it before anything is opened: first it holds
+/// the descriptors of the standard streams that are closed, so that no file gets one of them.
 ///
 /// # Errors
-/// `Words`: they ask for nothing. `Rows` with `Stream`: standard output failed. `Memory`.
+/// `Words`: they ask for nothing, or need a stream that is closed. `Rows` with `Stream`: standard output failed. `Memory`.
 pub fn asked_of<T: Threads + Host>(
     rt: &T,
     job: &CsvJob,
     own: Option<&OwnOption>,
 ) -> Result<Request, CsvJobError> {
-    match asked_by(rt, job, own)? {
+    let closed = hold_closed_streams(rt.host());
+    let parsed = asked_by(rt, job, own)?;
+    refuse_closed(closed, &parsed)?;
+    match parsed {
         Parsed::Job(asked) => Ok(Request::Job(asked)),
         Parsed::Text(text) => match text.print(rt.host()) {
             Ok(()) => Ok(Request::Said),

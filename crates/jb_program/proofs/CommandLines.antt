@@ -1,11 +1,11 @@
 -- What the program may be asked.
-use Rattle.std.proofs.Common.{◌≡◌, ◌≢◌, ◌⊎◌, ◌∷◌, ◌<◌, ◌≤◌, ℕ, ◌+◌, Bool, true, false, Decides, List, [], Option, Some, None, IfSome, is_some, codes, option_map, get_or, length, map, take, ◌++◌, ap, ap₂, arith, inl, inr, refl, subst, sym, ◌∙◌}
+use Rattle.std.proofs.Common.{◌≡◌, ◌≢◌, ◌⊎◌, ◌<◌, ◌≤◌, ℕ, ◌+◌, Bool, true, false, Decides, List, Option, Some, None, IfSome, is_some, codes, option_map, get_or, length, map, take, ap, ap₂, arith, inl, inr, refl, subst, sym, ◌∙◌}
 use Rattle.std.specs.Borrow.{Bor}
 use Rattle.std.specs.Box.{box_value}
 use Rattle.std.specs.Prelude.{Box, bytes_eq, if◌then◌else◌, option_and_then, slice_get}
 use Rattle.std.proofs.lemmas.Bool.{cases_lt}
 use Rattle.std.proofs.lemmas.Slice.Eq.{bytes_eq-Decides}
-use Rattle.std.proofs.lemmas.List.{length-append, length-map, take-map}
+use Rattle.std.proofs.lemmas.List.{take-map}
 use Rattle.std.proofs.lemmas.Option.{slice_get-get_or, slice_get-map}
 use Rattle.clap.specs.Words.{HasKind, IsAmong, Row, Text, first_of, is_simple, is_simple_and_free, kind_of, subcommand_name_of, subcommand_of, subcommand_rows, subcommand_rows_of}
 use Rattle.clap.specs.declared.error.Error.{Error}
@@ -14,10 +14,12 @@ use Rattle.clap.specs.declared.parser.matches.ArgMatches.TheViews.{out-ArgMatche
 use Rattle.clap.specs.declared.parser.matches.SubCommand.{SubCommand}
 use Rattle.clap.specs.declared.error.kind.ErrorKind.{ErrorKind}
 use Rattle.clap.specs.declared.error.kind.ErrorKind.TheVariants.{OutOfMemory}
+use Rattle.jb_program.specs.declared.words.fault.UsageFault.{UsageFault}
+use Rattle.jb_program.specs.declared.words.fault.UsageFault.TheVariants as usage
 use Rattle.jb_program.specs.declared.words.request.Request.{Request}
 use Rattle.jb_program.specs.declared.words.request.Request.TheVariants.{Help, Version, Perform}
 use Rattle.jb_program.specs.declared.words.request.Word.{Word}
-use Rattle.jb_program.specs.CommandLine.{AreTakenAs, AreUnknown, Asks, CanBeCompleted, CannotGoOn, IsWrongWord, app, line_in, request_in, rounds_of_word, topic_in, perform_in, word_in}
+use Rattle.jb_program.specs.CommandLine.{AreTakenAs, AreUnknown, Asks, CanBeCompleted, CannotGoOn, IsToldAt, IsWrong, app, line_in, request_in, rounds_of_word, topic_in, perform_in, word_in}
 
 -- what the program may be asked is simple, and no argument of it has a rule on another
 pub is_free : is_simple_and_free app ≡ true
@@ -78,9 +80,13 @@ perform_is_no_version : (given : Option Text) (o : Option Word) → option_and_t
 perform_is_no_version given None e = cc
 perform_is_no_version given (Some word) e = line_is_no_version word given e
 
+other_is_no_version : (is_help : Bool) (name : Text) → (if is_help then Some (Help None) else option_map (λ word. Help (Some word)) (word_in name)) ≡ Some Version → ⊥
+other_is_no_version true name e = cc
+other_is_no_version false name e = help_is_no_version (word_in name) e
+
 topic_is_no_version : (o : Option Text) → topic_in o ≡ Some Version → ⊥
 topic_is_no_version None e = cc
-topic_is_no_version (Some name) e = help_is_no_version (word_in name) e
+topic_is_no_version (Some name) e = other_is_no_version (bytes_eq name (codes "help")) name e
 
 either_is_no_version : (b : Bool) (name : Text) (rows : List Row) → (if b then topic_in (first_of (codes "word") rows) else perform_in name (first_of (codes "rounds") rows)) ≡ Some Version → ⊥
 either_is_no_version true name rows e = topic_is_no_version (first_of (codes "word") rows) e
@@ -136,20 +142,15 @@ pub text-at : (words : List (Bor Text)) (k : ℕ) (d : Bor Text) (text : Text) �
 text-at words k d text within is =
     slice_get-map (λ (w : Bor Text). w.now) words k ∙ ap (option_map (λ (w : Bor Text). w.now)) (slice_get-get_or words k d within) ∙ ap (λ t. Some t) (sym is)
 
--- the last word is the wrong one, where the words up to each before it can go on
-pub last-wrong : (words others : List (Bor Text)) (last : Bor Text) (text : Text) → words ≡ others ++ last ∷ [] → text ≡ last.now → AreUnknown (texts words) → GoOnUpTo (texts words) (length others)
-    → IsWrongWord (texts words) text
-last-wrong words others last text is reported unknown before =
-    let count : length words ≡ length others + 1 = ap length is ∙ length-append others (last ∷ []) in
-    let there : get_or words (length others) last ≡ last = ap (λ ws. get_or ws (length others) last) is ∙ get_or-at others last in
-    record {
-      unknown = unknown;
-      place = length others;
-      is_there = text-at words (length others) last text (omega (arith, count)) (reported ∙ ap (λ (w : Bor Text). w.now) (sym there));
-      before = before;
-      up_to = inr (omega (arith, count, length-map words (λ (w : Bor Text). w.now)));
-    }
-  where
-    get_or-at : (xs : List (Bor Text)) (x : Bor Text) → get_or (xs ++ x ∷ []) (length xs) x ≡ x
-    get_or-at [] x = refl
-    get_or-at (y ∷ xs) x = get_or-at xs x
+-- what is said of the word at a place, where the words up to it can't go on, or it is the last
+pub told-wrong : (words : List Text) (place : ℕ) (fault : UsageFault) → AreUnknown words → IsToldAt words place fault
+    → ((n : ℕ) → 0 < n → n ≤ place → CanBeCompleted (take n words)) → CannotGoOn (take (place + 1) words) ⊎ (place + 1 ≡ length words) → IsWrong fault (Some words)
+told-wrong words place usage.NoWord unknown told before up = absurd told
+told-wrong words place usage.NoText unknown told before up = absurd told
+told-wrong words place (usage.Wrong text reason) unknown told before up = record {
+  unknown = unknown;
+  place = place;
+  told = told;
+  before = before;
+  up_to = up;
+}

@@ -1,12 +1,17 @@
 -- The command line of the program, and what it asks for (own choice). It is one subcommand: `run` and `restart` take a number of
 -- rounds, and `help` a subcommand if need be. Or it is one of the usual options for help and the version.
-use Rattle.std.specs.Prelude.{◌≡◌, ◌≢◌, ◌⊎◌, ◌+◌, ◌<◌, ◌≤◌, ◌-◌, ◌*◌, ℕ, List, [], ◌∷◌, ◌++◌, length, take, nat_le, true, Option, Some, None, option_map, option_and_then, slice_get, codes, bytes_eq, string_bytes, if◌then◌else◌, IsSomeAnd}
+use Rattle.std.specs.Prelude.{◌≡◌, ◌≢◌, ◌⊎◌, ◌+◌, ◌<◌, ◌≤◌, ◌-◌, ◌*◌, ◌==◌, ◌&&◌, ◌||◌, ℕ, Bool, List, [], ◌∷◌, ◌++◌, length, take, nat_le, true, false, not, Option, Some, None, is_some, option_map, option_and_then, slice_get, codes, bytes_eq, string_bytes, if◌then◌else◌, IsSomeAnd}
 use Rattle.std.specs.Char.{is_ascii_digit}
+use Rattle.std.specs.List.{starts_with}
+use Rattle.std.specs.Option.{option_map_or}
 use Rattle.clap.specs.Words.{App, IsAmong, Row, Rule, Shape, Text, fault_of, first_of, new_app, new_rule, subcommand_of, with_rule, with_subcommand}
 use Rattle.clap.specs.declared.builder.action.ArgAction.TheVariants.{Set}
 use Rattle.clap.specs.declared.error.kind.ErrorKind.{ErrorKind}
 use Rattle.clap.specs.declared.error.kind.ErrorKind.TheVariants.{DisplayHelp, DisplayVersion}
 use Rattle.jb_base.specs.Limits.{max_rounds}
+use Rattle.jb_program.specs.UsageText.{escaped}
+use Rattle.jb_program.specs.declared.words.fault.Reason.{Reason}
+use Rattle.jb_program.specs.declared.words.fault.Reason.TheVariants.{Rounds, Document, Unknown}
 use Rattle.jb_program.specs.declared.words.fault.UsageFault.{UsageFault}
 use Rattle.jb_program.specs.declared.words.fault.UsageFault.TheVariants as usage
 use Rattle.jb_program.specs.declared.words.request.Request.{Request}
@@ -16,11 +21,11 @@ use Rattle.jb_program.specs.declared.words.request.Word.TheVariants.{Run, Restar
 
 -- ---- the words and options that there are
 
--- the program with no word; it has `-h`, `--help`, `-V` and `--version`
+-- the program with no word; it has `-h`, `--help`, `-V` and `--version`, and so has each word
 abbrev pub program : App
-program = record (new_app (codes "batchrun")) { top = record (new_app (codes "batchrun")).top { no_binary_name = true; disable_help_subcommand = true; has_version = true } }
+program = record (new_app (codes "batchrun")) { top = record (new_app (codes "batchrun")).top { no_binary_name = true; disable_help_subcommand = true; has_version = true; propagate_version = true } }
 
--- a word that takes no argument but `-h` and `--help`
+-- a word that takes no argument but these
 abbrev pub word_app : Text → Shape
 word_app name = (new_app name).top
 
@@ -70,10 +75,10 @@ line_in word (Some text) = option_map (λ n. Perform (record { word = word; roun
 abbrev pub perform_in : Text → (given : Option Text) → Option Request
 perform_in name given = option_and_then (λ word. line_in word given) (word_in name)
 
--- `help` alone is about the program, and with a subcommand about that subcommand
+-- `help` alone is about the program, and so is `help help`; with another subcommand it is about that one
 abbrev pub topic_in : Option Text → Option Request
 topic_in None = Some (Help None)
-topic_in (Some name) = option_map (λ word. Help (Some word)) (word_in name)
+topic_in (Some name) = if bytes_eq name (codes "help") then Some (Help None) else option_map (λ word. Help (Some word)) (word_in name)
 
 -- what a subcommand's name and matches ask for
 abbrev pub request_in : Option (Text × List Row) → Option Request
@@ -113,12 +118,34 @@ CanBeCompleted words = (request : Request) × (Asks words request ⊎ Asks (word
 abbrev pub CannotGoOn : List Text → Type 0
 CannotGoOn words = AreUnknown words × AreUnknown (words ++ codes "0" ∷ [])
 
--- The arguments ask for nothing. This is the first one up to which no number after them would help. If there is no such
--- argument, it is the last, whose number is missing.
-pub record IsWrongWord (words : List Text) (word : Text) : Type 0 where
+-- the last of these words is `--rounds`
+abbrev pub end_in_rounds : List Text → Bool
+end_in_rounds words = option_map_or (λ last. bytes_eq last (codes "--rounds")) (slice_get words (length words - 1)) false
+
+-- Why a word is wrong after these: it is about a number of rounds; it isn't an option, and follows a word that reads a document; or it
+-- isn't known.
+abbrev pub reason_after : (before : List Text) → (word : Text) → Reason
+reason_after before word = if starts_with ◌==◌ word (codes "--rounds") || end_in_rounds before then Rounds
+    else (if is_some (topic_at before) && not (starts_with ◌==◌ word (codes "-")) then Document else Unknown)
+
+-- This is said of the word at this place: the word, escaped, and why it is wrong.
+pub record IsTold (words : List Text) (place : ℕ) (text : Text) (reason : Reason) : Type 0 where
+  pub word : Text
+  pub is_there : slice_get words place ≡ Some word
+  pub is_escaped : text ≡ escaped word
+  pub is_why : reason ≡ reason_after (take place words) word
+
+-- what a fault says of the word at this place
+abbrev pub IsToldAt : List Text → (place : ℕ) → UsageFault → Type 0
+IsToldAt words place (usage.Wrong text reason) = IsTold words place (string_bytes text) reason
+IsToldAt words place _ = ⊥
+
+-- The arguments ask for nothing. This is said of the first one up to which no number after them would help. If there is no such
+-- argument, it is said of the last, whose number is missing.
+pub record IsWrongWord (words : List Text) (text : Text) (reason : Reason) : Type 0 where
   pub unknown : AreUnknown words
   pub place : ℕ
-  pub is_there : slice_get words place ≡ Some word
+  pub told : IsTold words place text reason
   pub before : (n : ℕ) → 0 < n → n ≤ place → CanBeCompleted (take n words)
   pub up_to : CannotGoOn (take (place + 1) words) ⊎ (place + 1 ≡ length words)
 
@@ -126,4 +153,4 @@ pub record IsWrongWord (words : List Text) (word : Text) : Type 0 where
 abbrev pub IsWrong : UsageFault → Option (List Text) → Type 0
 IsWrong usage.NoWord words = words ≡ Some []
 IsWrong usage.NoText words = words ≡ None
-IsWrong (usage.Wrong word) words = IsSomeAnd words (λ given. IsWrongWord given (string_bytes word))
+IsWrong (usage.Wrong text reason) words = IsSomeAnd words (λ given. IsWrongWord given (string_bytes text) reason)

@@ -5,7 +5,7 @@ use Rattle.jb_program.specs.declared.words.request.Word.TheVariants.{Run, Restar
 
 -- what the program is for, its subcommands, and what each status means
 unfoldable pub program_help : List ℕ
-program_help = codes "usage: batchrun WORD < DOCUMENT\n       batchrun help [WORD]\n\nReads one JSON document on standard input, to its end, and prints the answer on\nstandard output. WORD says what is done with it:\n\n  run      runs the document's job and prints a report\n  restart  goes on with a job that was stopped or failed, and prints a report\n  plan     prints a plan of the fewest rounds for partitions of so many chunks\n  check    prints whether a plan is lawful, and whether its certificate holds\n\n`help WORD` and `WORD --help` tell what a word reads and prints; `--version`\nprints the version. `run --rounds 0` is a dry run: the document is checked, and\nno record is processed.\n\nThe exit status says how it went:\n\n  0  The job is completed, or the plan is printed, or the plan that was checked\n     is lawful and its certificate holds.\n  1  The job failed, or the plan that was checked isn't lawful or its\n     certificate doesn't hold.\n  2  The job was stopped before its end.\n  3  The document, a step's partition plan or its saved rows are refused, and\n     standard error names the first fault.\n  4  There was no memory or no worker, or a step's repository wasn't its own or\n     refused an event, or a stream failed: standard error says which.\n  5  The words ask for nothing, and standard error names the first wrong one.\n\ndocs/FORMATS.md says what stands in documents and answers, and for each refusal\nits usual cause. examples/ has documents to begin with.\n"
+program_help = codes "usage: batchrun WORD < DOCUMENT\n       batchrun help [WORD]\n\nReads one JSON document on standard input, to its end, and prints the answer on\nstandard output. WORD says what is done with it:\n\n  run      runs the document's job and prints a report\n  restart  goes on with a job that was stopped or failed, and prints a report\n  plan     prints a plan of the fewest rounds for partitions of so many chunks\n  check    prints whether a plan is lawful, and whether its certificate holds\n\n`help WORD` and `WORD --help` tell what a word reads and prints; `--version`\nprints the version. `run --rounds 0` is a dry run: the document is checked, and\nno record is processed. tools/check-document lists all faults of a document.\n\nThe exit status says how it went:\n\n  0  The job is completed, or the plan is printed, or the plan that was checked\n     is lawful and its certificate holds.\n  1  The job failed, or the plan that was checked isn't lawful or its\n     certificate doesn't hold.\n  2  The job was stopped before its end.\n  3  The document, a step's partition plan or its saved rows are refused, and\n     standard error names the first fault.\n  4  There was no memory or no worker, or a step's repository wasn't its own or\n     refused an event, or a stream failed: standard error says which.\n  5  The words ask for nothing, and standard error names the first wrong one.\n\ndocs/FORMATS.md says what stands in documents and answers, and for each refusal\nits usual cause. examples/ has documents to begin with.\n"
 
 -- what each word reads and prints
 unfoldable pub run_help : List ℕ

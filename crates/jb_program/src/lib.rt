@@ -1,5 +1,5 @@
 //! The program over any arguments, any reader and any two writers: it runs a batch job, plans rounds of chunks or checks such
-//! a plan, from a JSON document. `batchrun` hands it the process's own.
+//! a plan, from a JSON document. `batchrun` hands it the process's own, through `jb_process`.
 //!
 //! - `words`: the command line, and what each subcommand does.
 //! - `run`: the run of a job, its steps and their partitions.
@@ -12,4 +12,6 @@ mod run;
 mod streams;
 mod words;
 
-pub use program::perform;
+pub use program::{answer_request, perform, request_of, status_of};
+pub use streams::{ProgramError, unread};
+pub use words::{Line, Request, Word};

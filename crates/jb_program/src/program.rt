@@ -1,10 +1,10 @@
 //! The program over any arguments, any reader and any two writers.
 
-ghost use Rattle.std.specs.Prelude.{◌≡◌, ◌<◌, ◌≤◌, map, Some, IfErr, IfOk, OnErr, OnOk};
+ghost use Rattle.std.specs.Prelude.{◌≡◌, ◌<◌, ◌≤◌, IfErr, IfOk, OnErr, OnOk};
 ghost use Rattle.std.specs.Io.KnownBytes.{Keeps};
 ghost use Rattle.jb_program.specs.declared.words.request.Request.{Request};
 ghost use Rattle.jb_program.specs.Answer.{IsAnswer};
-ghost use Rattle.jb_program.specs.Failures.{HasFailed, IsAsked, IsFailureReported};
+ghost use Rattle.jb_program.specs.Failures.{HasFailed, HasNoAnswer, HasNoRequest, IsAsked, IsFailureReported};
 ghost use Rattle.jb_program.specs.ProcessWords.{process_words};
 ghost use Rattle.jb_program.specs.Statuses.{failure_code};
 
@@ -20,19 +20,29 @@ use std::io::{Read, Write};
 use std::sync::Wait;
 use std::thread::Threads;
 
-/// Does what the arguments ask.
-fn answer_words<'a, T: Threads + Wait + Sync, R: Read, W: Write>(
+/// What the process's arguments ask for.
+pub fn request_of(alloc: Global, args: io::Result<Args>) -> Result<Request, ProgramError>
+    ensures asked { IfOk result (IsAsked (process_words args)) }
+    ensures refused { IfErr result (HasNoRequest (process_words args)) }
+{
+    let args = arguments(alloc, args)?;
+    let words = words_after_name(alloc, &args)?;
+    let request = line_of(alloc, &words)?;
+    Ok(request)
+}
+
+/// Does what was asked. Only a subcommand with a document reads.
+pub fn answer_request<T: Threads + Wait + Sync, R: Read, W: Write>(
     rt: &T,
     alloc: Global,
-    words: &'a [&'a str],
+    request: Request,
     reader: &mut R,
     writer: &mut W,
 ) -> Result<u8, ProgramError>
-    ensures answered { IfOk result (λ status. (request : Request) × IsAsked (Some (map (λ w. w.now) words.now)) request × IsAnswer request (R.remaining reader.old) (W.contents writer.old) (W.contents writer.new) status) }
+    ensures answered { IfOk result (IsAnswer request (R.remaining reader.old) (W.contents writer.old) (W.contents writer.new)) }
     ensures status { IfOk result (λ status. status < 3) }
-    ensures failed { IfErr result (HasFailed (Some (map (λ w. w.now) words.now)) (R.remaining reader.old) (W.contents writer.old) (W.contents writer.new)) }
+    ensures failed { IfErr result (HasNoAnswer request (R.remaining reader.old) (W.contents writer.old) (W.contents writer.new)) }
 {
-    let request = line_of(alloc, words)?;
     match request {
         Request::Help(topic) => write_help(topic, writer),
         Request::Version => write_version(writer),
@@ -57,9 +67,8 @@ fn answer<T: Threads + Wait + Sync, R: Read, W: Write>(
     ensures status { IfOk result (λ status. status < 3) }
     ensures failed { IfErr result (HasFailed (process_words args) (R.remaining reader.old) (W.contents writer.old) (W.contents writer.new)) }
 {
-    let args = arguments(alloc, args)?;
-    let words = words_after_name(alloc, &args)?;
-    answer_words(rt, alloc, &words, reader, writer)
+    let request = request_of(alloc, args)?;
+    answer_request(rt, alloc, request, reader, writer)
 }
 
 /// The exit status of a failure that was to be reported: its own, if its text was written; else a stream has failed.
@@ -74,7 +83,7 @@ fn exit_code_of(failure: &ProgramError, written: io::Result<()>) -> u8
 }
 
 /// The exit status of an answer, or of a failure, which is written to the fault writer.
-fn status_of<F: Write>(answer: Result<u8, ProgramError>, fault_writer: &mut F) -> u8
+pub fn status_of<F: Write>(answer: Result<u8, ProgramError>, fault_writer: &mut F) -> u8
     ensures answered { IfOk answer (λ status. result ≡ status) }
     ensures quiet { OnOk answer (Keeps (F.contents fault_writer.old) (F.contents fault_writer.new)) }
     ensures failed { IfErr answer (λ failure. IsFailureReported failure (F.contents fault_writer.old) (F.contents fault_writer.new) result) }

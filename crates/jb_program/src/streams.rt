@@ -6,5 +6,5 @@ mod lines;
 mod writing;
 
 pub use error::ProgramError;
-pub use input::read_all;
+pub use input::{read_all, unread};
 pub use writing::write_failure;

@@ -17,7 +17,7 @@ mod restart;
 mod run;
 
 pub use check::run_check;
-pub use fault::{ADVICE, LineFault, UsageFault};
+pub use fault::{LineFault, UsageFault};
 pub use help::{write_help, write_version};
 pub use line::line_of;
 pub use plan::run_plan;

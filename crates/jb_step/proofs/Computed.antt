@@ -1,5 +1,5 @@
 -- The worked rows, computed.
-use Rattle.std.proofs.Common.{◌≡◌, ◌≤◌, ℕ, Bool, true, not, ◌&&◌, length, drop, map, sym, ap, ◌∙◌, subst, arith, List, Option, None, [], ◌∷◌, ◌++◌, refl, lit≤, inl, inr}
+use Rattle.std.proofs.Common.{◌≡◌, ◌≤◌, ℕ, Bool, true, false, not, ◌&&◌, length, drop, map, sym, ap, ◌∙◌, subst, arith, List, Option, None, [], ◌∷◌, ◌++◌, refl, lit≤, inl, inr}
 use Rattle.std.proofs.Math.Dec.{leb}
 use Rattle.std.proofs.lemmas.Bool.{and_parts, leb-true, not-true}
 use Rattle.std.specs.Fmt.{digits}
@@ -30,7 +30,7 @@ use Rattle.jb_step.specs.rounds.Rounds.{AreRun, CanRun, after_round, breaks, tas
 use Rattle.jb_step.specs.rounds.Runs.{PlanRun, ArePlanRuns, IsPlanRun, rounds_run}
 use Rattle.jb_step.specs.preparing.Prepare.{IsBegunThen}
 use Rattle.jb_step.specs.preparing.Setup.{Setup, counts_now}
-use Rattle.jb_step.specs.Worked.{CallsOfPrepare, CallsOfOverride, CallsWithoutMemory, AfterReducer, WithoutMemory, WorkedRows, whole_seven, skipped_run, stopped_seven, plan_run, chunks, faulted_rollback, well_rollback}
+use Rattle.jb_step.specs.Worked.{CallsOfPrepare, CallsOfOverride, CallsWithoutMemory, ShortRuns, AfterReducer, WithoutMemory, WorkedRows, whole_seven, skipped_run, stopped_seven, plan_run, chunks, faulted_rollback, well_rollback}
 use Rattle.jb_step.specs.inside.LowerLaws.{LowerLaws}
 use Rattle.jb_step.proofs.plans.Planning.{least-wrapped}
 use Rattle.jb_step.proofs.plans.Steady.{row_waits}
@@ -102,6 +102,18 @@ goes_on run = elim run.run.1 [ inl none ↦ cc | inr quiet ↦ cc ]
 left_open : ArePlanRuns stopped_seven.step stopped_seven.start (stopped_seven.plans ++ plan_run FullLoad [] 0 ∷ []) → ⊥
 unfolding end_of asks_repeat repeated_up_to all_repeated settling settles entry results count_of artifacts_used used_between used_at digits blocks
 left_open runs = elim runs.1 [ inl none ↦ cc | inr (inl whole) ↦ cc | inr (inr broken) ↦ cc ]
+
+-- HOW SHORT A RUN IS
+
+short_runs : ShortRuns
+short_runs = record {
+  left = refl;
+  few = λ s few. record { plans = lit≤ tt; rounds = lit≤ tt; events = λ going. few };
+  many = λ s going is short. let few = short.events going in absurd (omega (arith, is, few));
+  stopped = λ s stopped. record { plans = lit≤ tt; rounds = lit≤ tt; events = λ going. (let never : true ≡ false = sym stopped ∙ going in cc) };
+  idle = λ s short. let plans = short.plans in absurd (omega (arith, plans));
+  long = λ s short. let rounds = short.rounds in absurd (omega (arith, rounds));
+}
 
 -- WHERE THE REDUCER'S CALLS END
 
@@ -182,6 +194,7 @@ worked law = (
   record { gives = ((planned law refl, inr (inl refl), single law refl), refl); events = refl },
   ((planned law refl, inr (inr refl), single law refl), refl),
   record { slow = too_slow law.least; kept = goes_on; dropped = left_open },
+  short_runs,
   calls_of_prepare,
   calls_of_override,
   record { goes_on = refl; anew = refl; discarded = refl; no_override = refl; first_run = refl },

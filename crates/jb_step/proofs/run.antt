@@ -3,6 +3,8 @@ pub mod Breaking
 pub mod Ending
 pub mod Leading
 pub mod Rounding
+pub mod Short
+pub mod ShortRun
 pub mod SingleSlot
 pub mod SoFar
 pub mod Splitting

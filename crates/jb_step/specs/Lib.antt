@@ -5,6 +5,7 @@ pub mod OnePartition
 pub mod Answers
 pub mod Laws
 pub mod Headline
+pub mod Short
 pub mod Worked
 pub mod inside
 pub mod callbacks

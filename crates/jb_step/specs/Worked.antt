@@ -1,6 +1,6 @@
 -- Worked rows: what the definitions give for whole steps, computed apart from any code. Records are the letters a, b, c,
 -- .., the processor puts an x before each, and faults are of the class E.
-use Rattle.std.specs.Prelude.{◌≡◌, ℕ, true, false, Ok, List, [], ◌∷◌, ◌++◌, Some, None, codes, length, map}
+use Rattle.std.specs.Prelude.{◌≡◌, ◌≤◌, ℕ, true, false, Ok, List, [], ◌∷◌, ◌++◌, Some, None, codes, length, map}
 use Rattle.jb_base.specs.declared.range.Range.{Range}
 use Rattle.jb_base.specs.Rules.{RulesRecord}
 use Rattle.jb_artifacts.specs.declared.faults.FaultPlan.TheVariants.{Bad, Shaky}
@@ -21,6 +21,7 @@ use Rattle.jb_collect.specs.declared.calls.PartitionStatus.TheVariants as end
 use Rattle.jb_collect.specs.ReducerCalls.{reducer_calls, rolled_back}
 use Rattle.jb_collect.specs.AnsweredCalls.{AnsweredCall, well, faulted}
 use Rattle.jb_rules.specs.declared.row.Row.{Row}
+use Rattle.jb_repo.specs.declared.snapshot.Snapshot.{Snapshot}
 use Rattle.jb_saved.specs.SavedRows.{SavedRows}
 use Rattle.jb_step.specs.declared.error.StepError.TheVariants as step_error
 use Rattle.jb_cert.specs.declared.notes.PlanNote.{PlanNote}
@@ -28,7 +29,8 @@ use Rattle.jb_step.specs.Answers.{AreCallsInPart, artifacts_of, tasks_left}
 use Rattle.jb_step.specs.callbacks.Heard.{heard}
 use Rattle.jb_step.specs.preparing.Prepare.{AreCallsAtRefusal, AreCallsBefore}
 use Rattle.jb_step.specs.rounds.Runs.{PlanRun, AreOver, ArePlanRuns, IsPlanRun, note_of, table_after, events_of}
-use Rattle.jb_step.specs.preparing.Setup.{Setup, overrides, needs, first_table, fresh_rows, gone_on, opening_rows, rows_now}
+use Rattle.jb_step.specs.preparing.Setup.{Setup, overrides, needs, first_table, first_tasks, fresh_rows, gone_on, opening_rows, rows_now}
+use Rattle.jb_step.specs.Short.{IsShort, all_attempts_left}
 use Rattle.jb_step.specs.Statuses.{status_of}
 use Rattle.jb_step.specs.Tables.{Table, held_in}
 use Rattle.jb_step.specs.restarts.StepRuns.{artifacts_restarted}
@@ -320,6 +322,26 @@ pub record Refused : Type 0 where
   -- a plan that was left with a round to run, and another after it
   pub dropped : ArePlanRuns stopped_seven.step stopped_seven.start (stopped_seven.plans ++ plan_run FullLoad [] 0 ∷ []) → ⊥
 
+-- HOW SHORT A RUN IS
+
+-- four records and two, with one retry in each partition: eight attempts
+abbrev pub six_with_retries : List TaskState
+six_with_retries = first_tasks (step (record (rules_of 0 1) { retry_limit = 1 }) 4 2 (range 0 4 ∷ range 4 6 ∷ [])) (clean 0 ∷ clean 4 ∷ [])
+
+-- two plans of eight rounds together
+abbrev pub eight_rounds : List PlanNote
+eight_rounds = note (Longest 0) 1 1 ∷ note (Longest 0) 7 7 ∷ []
+
+pub record ShortRuns : Type 0 where
+  pub left : all_attempts_left six_with_retries ≡ 8
+  -- up to 32 events, and any number if the run was stopped
+  pub few : (s : Snapshot) → s.events ≤ 32 → IsShort six_with_retries eight_rounds s
+  pub many : (s : Snapshot) → s.stopping ≡ false → s.events ≡ 33 → IsShort six_with_retries eight_rounds s → ⊥
+  pub stopped : (s : Snapshot) → s.stopping ≡ true → IsShort six_with_retries eight_rounds s
+  -- a plan of which no round was run, and a ninth round
+  pub idle : (s : Snapshot) → IsShort six_with_retries (note (Longest 0) 1 0 ∷ []) s → ⊥
+  pub long : (s : Snapshot) → IsShort six_with_retries (note (Longest 0) 9 9 ∷ []) s → ⊥
+
 -- THE REDUCER'S CALLS WHERE THERE IS NO ANSWER
 
 -- the step is rolled back; the first of its calls is answered with a fault, or both are answered well
@@ -386,4 +408,4 @@ pub record CallsWithoutMemory : Type 0 where
 abbrev pub WorkedRows : Type 0
 WorkedRows =
     SevenRecords × SevenOnOneThread × StoppedAndRestarted × OneRoundEach × OneFailed × NoRecord × Retried × Skipped × Refused
-    × CallsOfPrepare × CallsOfOverride × Overridden × CallsWithoutMemory
+    × ShortRuns × CallsOfPrepare × CallsOfOverride × Overridden × CallsWithoutMemory

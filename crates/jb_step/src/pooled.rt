@@ -7,6 +7,7 @@ ghost use Rattle.jb_step.specs.Headline.{Headline};
 ghost use Rattle.jb_step.specs.preparing.Prepare.{DoFit};
 ghost use Rattle.jb_step.specs.preparing.Setup.{first_tasks};
 ghost use Rattle.jb_step.specs.declared.error.StepError.TheVariants.{WrongArtifacts, Memory};
+ghost use Rattle.jb_step.specs.Short.{IsShort};
 
 use crate::error::StepError;
 use crate::preparing::prepared::Prepared;
@@ -62,6 +63,7 @@ fn run_in<
       left = given_back T.Artifacts.meaning end.artifacts.items;
     })) }
     ensures on_the_way { IfOk result (λ end. AreLeftOnTheWay (first_tasks prepared (map T.Artifacts.meaning artifacts.items)) end.snapshot.rows.items (given_back T.Artifacts.meaning end.artifacts.items)) }
+    ensures short { IfOk result (λ end. IsShort (first_tasks prepared (map T.Artifacts.meaning artifacts.items)) end.plans.items end.snapshot) }
     ensures status { IfOk result (λ end. IsStatus end.snapshot (since (map well analyzer.old) (map well analyzer.new)) (since (map well reducer.old) (map well reducer.new)) end.status) }
     ensures reducer { IfOk result (λ end. AreCallsAfter end.snapshot (since (map well analyzer.old) (map well analyzer.new)) (since (map well reducer.old) (map well reducer.new))) }
     ensures undone { IfErr result (λ e. AreCallsUndone e (since (map well reducer.old) (map well reducer.new))) }
@@ -138,6 +140,7 @@ pub fn run_pooled_step<
       left = given_back T.Artifacts.meaning end.artifacts.items;
     })) }
     ensures on_the_way { IfOk result.0 (λ end. AreLeftOnTheWay (first_tasks prepared (map T.Artifacts.meaning artifacts.items)) end.snapshot.rows.items (given_back T.Artifacts.meaning end.artifacts.items)) }
+    ensures short { IfOk result.0 (λ end. IsShort (first_tasks prepared (map T.Artifacts.meaning artifacts.items)) end.plans.items end.snapshot) }
     ensures status { IfOk result.0 (λ end. IsStatus end.snapshot (since (map well analyzer) (map well result.1)) (since (map well reducer) (map well result.2)) end.status) }
     ensures reducer { IfOk result.0 (λ end. AreCallsAfter end.snapshot (since (map well analyzer) (map well result.1)) (since (map well reducer) (map well result.2))) }
     ensures undone { IfErr result.0 (λ e. AreCallsUndone e (since (map well reducer) (map well result.2))) }
@@ -177,6 +180,7 @@ pub fn run_pooled_step<
                   left = given_back T.Artifacts.meaning end.artifacts.items;
                 })))
                 × (IfOk result.0 (λ end. AreLeftOnTheWay (first_tasks prepared (map T.Artifacts.meaning artifacts.items)) end.snapshot.rows.items (given_back T.Artifacts.meaning end.artifacts.items)))
+                × (IfOk result.0 (λ end. IsShort (first_tasks prepared (map T.Artifacts.meaning artifacts.items)) end.plans.items end.snapshot))
                 × (IfOk result.0 (λ end. IsStatus end.snapshot (since (map well analyzer) (map well result.1)) (since (map well reducer) (map well result.2)) end.status))
                 × (IfOk result.0 (λ end. AreCallsAfter end.snapshot (since (map well analyzer) (map well result.1)) (since (map well reducer) (map well result.2))))
                 × (IfErr result.0 (λ e. AreCallsUndone e (since (map well reducer) (map well result.2))))

@@ -9,6 +9,7 @@ ghost use Rattle.jb_collect.specs.AnsweredCalls.{Grew, since};
 ghost use Rattle.jb_step.specs.callbacks.Callbacks.{has_fault};
 ghost use Rattle.jb_step.specs.Headline.{Headline};
 ghost use Rattle.jb_step.specs.preparing.Setup.{first_tasks};
+ghost use Rattle.jb_step.specs.Short.{IsShort};
 ghost use Rattle.jb_step.specs.Statuses.{status_of};
 ghost use Rattle.jb_step.specs.declared.error.StepError.TheVariants.{WrongArtifacts, Memory};
 
@@ -130,6 +131,7 @@ impl<L: StepLedger, G: StepGate, R: StepThreads> RoundRunner<'_, L, G, R> {
         })) }
         ensures on_the_way { IfOk result (λ end.
             AreLeftOnTheWay (first_tasks prepared.now (map T.Artifacts.meaning artifacts.items)) end.snapshot.rows.items (given_back T.Artifacts.meaning end.artifacts.items)) }
+        ensures short { IfOk result (λ end. IsShort (first_tasks prepared.now (map T.Artifacts.meaning artifacts.items)) end.plans.items end.snapshot) }
         ensures status { IfOk result (λ end. end.status ≡ status_of end.snapshot.rows.items (has_fault (since (analyzed analyzer.old) (analyzed analyzer.new)))) }
         ensures grew { Grew (analyzed analyzer.old) (analyzed analyzer.new) }
     {
@@ -209,6 +211,9 @@ pub fn run_step<
     // Stopped, each partition is on the way to where its attempts alone end.
     ensures on_the_way { IfOk result (λ end.
         AreLeftOnTheWay (first_tasks prepared (map T.Artifacts.meaning artifacts.items)) end.snapshot.rows.items (given_back T.Artifacts.meaning end.artifacts.items)) }
+
+    // No more plans than rounds, no more rounds than the tasks had attempts left, and unstopped no more than four events for each of these.
+    ensures short { IfOk result (λ end. IsShort (first_tasks prepared (map T.Artifacts.meaning artifacts.items)) end.plans.items end.snapshot) }
 
     // The step's status, and the reducer's calls.
     ensures status { IfOk result (λ end. IsStatus end.snapshot (since (analyzed analyzer.old) (analyzed analyzer.new)) (since (reduced reducer.old) (reduced reducer.new)) end.status) }
@@ -290,6 +295,9 @@ pub fn run_step_by<
     // Stopped, each partition is on the way to where its attempts alone end.
     ensures on_the_way { IfOk result (λ end.
         AreLeftOnTheWay (first_tasks prepared (map T.Artifacts.meaning artifacts.items)) end.snapshot.rows.items (given_back T.Artifacts.meaning end.artifacts.items)) }
+
+    // No more plans than rounds, no more rounds than the tasks had attempts left, and unstopped no more than four events for each of these.
+    ensures short { IfOk result (λ end. IsShort (first_tasks prepared (map T.Artifacts.meaning artifacts.items)) end.plans.items end.snapshot) }
 
     // The step's status, and the reducer's calls.
     ensures status { IfOk result (λ end. IsStatus end.snapshot (since (analyzed analyzer.old) (analyzed analyzer.new)) (since (reduced reducer.old) (reduced reducer.new)) end.status) }

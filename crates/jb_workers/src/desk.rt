@@ -23,7 +23,8 @@ use std::sync::{Mutex, Wait};
 /// A repository under one lock, with the book of its commits, and a stop flag beside it.
 ///
 /// Each time that the lock is got, the history is accepted, the rows are those after it, and the book's number is its
-/// number of Commits.
+/// number of Commits. A thread that waits for the lock waits for one that applies an event or copies the table.
+/// That one waits for nobody.
 #[derive(Drop)]
 pub struct Desk<L: Ledger> {
     state: Mutex<DeskState<L>>,

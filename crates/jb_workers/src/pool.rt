@@ -82,6 +82,7 @@ impl<T: PartitionTask, L: Ledger> Pool<T, L> {
     pub fn end<R: Threads + Wait>(self, desk: &Desk<L>, rt: &R) {
         let Pool { idle, threads } = self;
         drop(idle);
+        // It waits for each thread. Their mailboxes are closed now, so each ends when it sees that.
         for thread in threads {
             let share = thread.join(rt);
             desk.give_back(rt, share);

@@ -7,6 +7,7 @@ ghost use Rattle.minimal.specs.Capitals.{blank_class, capitals};
 
 use jb_base::{ClassId, DEFAULT_RETRY_LIMIT, Name, PackedList, Rules};
 use jb_collect::Status;
+use jb_files::hold_closed_streams;
 use jb_ready::{Classes, lines};
 use jb_records::{RecordsEnd, RecordsStep, RecordsStepError, StoppedRun, run_records};
 use jb_rows::{Outcome, Row, RowBuilder, RowFunction, Rows};
@@ -103,6 +104,7 @@ fn run<R: Threads + Wait + Sync>(
 }
 
 fn main(rt: HostRuntime) -> io::Result<ExitCode> {
+    hold_closed_streams(&rt);
     let alloc = rt.alloc();
     let mut text = Vec::new(alloc);
     rt.stdin().read_to_end(&mut text)?;

@@ -18,7 +18,7 @@ mod sheet;
 use clerk::{CLASSES, Clerk};
 use jb_base::DEFAULT_RETRY_LIMIT;
 use jb_csv_job::{
-    Asked, CsvJob, CsvJobError, Drops, Host, JobEnd, Keeper, Output, Request, Stored, asked_of,
+    Asked, CsvJob, CsvJobError, Host, JobEnd, Keeper, Output, Request, Stored, Watches, asked_of,
     close_list, exit_code, open_list, ready_folder, run_csv_job,
 };
 use jb_rows::RowsOptions;
@@ -99,16 +99,16 @@ fn answer<T: Threads + Wait + Clock + Eprint + Host + Copy + Send + Sync + 'stat
     asked: &Asked,
 ) -> Result<JobEnd, CsvJobError> {
     let host = rt.host();
-    ready_folder(host, asked.folder.as_str())?;
+    ready_folder(host, asked)?;
     let to = Output::open(host, asked.output.as_deref())?;
     let list = open_list(host, asked)?;
-    let (end, to, list) = paid::<T, Brand, Drops, Stdin, Output, Output>(
+    let (end, to, list) = paid::<T, Brand, Watches, Stdin, Output, Output>(
         rt,
         asked,
         host.stdin(),
         to,
         list,
-        &mut Drops,
+        &mut Watches::new(),
     )?;
     close_list(host, list)?;
     to.close(host, end.status == 0)?;

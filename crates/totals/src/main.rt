@@ -17,7 +17,7 @@ mod run;
 
 use failure::TotalsError;
 use jb_csv_job::{
-    Asked, Drops, Host, JobEnd, Output, OwnOption, Request, asked_of, close_list, exit_code,
+    Asked, Host, JobEnd, Output, OwnOption, Request, Watches, asked_of, close_list, exit_code,
     open_list, ready_folder,
 };
 use jb_rows::{Rows, RowsOptions, RowsWriter};
@@ -51,10 +51,10 @@ fn answer<T: Threads + Wait + Clock + Eprint + Host + Copy + Send + Sync + 'stat
 ) -> Result<JobEnd, TotalsError> {
     let host = rt.host();
     let list = read_list(host, asked)?;
-    ready_folder(host, asked.folder.as_str())?;
+    ready_folder(host, asked)?;
     let to = Output::open(host, asked.output.as_deref())?;
     let skips = open_list(host, asked)?;
-    let (end, rows, skips) = totals::<T, Brand, Drops, Stdin, Output>(
+    let (end, rows, skips) = totals::<T, Brand, Watches, Stdin, Output>(
         rt,
         host.alloc(),
         asked,
@@ -62,7 +62,7 @@ fn answer<T: Threads + Wait + Clock + Eprint + Host + Copy + Send + Sync + 'stat
         list.stamp.as_str(),
         host.stdin(),
         skips,
-        &mut Drops,
+        &mut Watches::new(),
     )?;
     close_list(host, skips)?;
     let to = write_totals(host, to, &rows)?;

@@ -1,4 +1,4 @@
-//! Reads and writes of `perform` that fail, each in turn, that are short, or that are interrupted.
+//! Reads and writes of `perform_recorded` that fail, each in turn, that are short, or that are interrupted.
 //!
 //! The streams give and take one byte at each call, and where calls are interrupted two and seven as well. In the last turn of each
 //! loop no call fails, so that such short reads and writes are shown to change nothing. A flush is a call, too: it follows each text
@@ -16,7 +16,8 @@
 //! The help isn't among the answers.
 
 use super::streams::{FailingReader, FailingWriter, Interrupted, arguments};
-use jb_program::perform;
+use jb_process::perform_recorded;
+use jb_streams::Recorded;
 use std::alloc::{AllocError, Global};
 use std::sync::Wait;
 use std::thread::Threads;
@@ -129,13 +130,13 @@ fn comes_to<R: Threads + Wait + Sync>(
     reads: usize,
     (output, line, status): (&str, &str, u8),
 ) -> bool {
-    let mut reader = FailingReader::new(document.as_bytes(), 1, fails.read);
+    let mut reader = Recorded::new(FailingReader::new(document.as_bytes(), 1, fails.read));
     let mut writer = FailingWriter::new(alloc, 1, fails.write);
     let mut faults = FailingWriter::new(alloc, 1, fails.fault);
     let args = arguments(alloc, word);
-    let code = perform(rt, alloc, args, &mut reader, &mut writer, &mut faults);
+    let code = perform_recorded(rt, alloc, args, &mut reader, &mut writer, &mut faults);
     code == status
-        && reader.calls() == reads
+        && reader.get_ref().calls() == reads
         && (writer.bytes(), writer.calls()) == front(output, fails.write)
         && (faults.bytes(), faults.calls()) == front(line, fails.fault)
 }
@@ -226,11 +227,12 @@ const SIZES: [usize; 3] = [1, 2, 7];
 /// the row's status and texts.
 fn is_whole<R: Threads + Wait + Sync>(rt: &R, alloc: Global, row: &Row, most: usize) -> bool {
     let (word, document, output, status) = *row;
-    let mut reader = Interrupted::new(FailingReader::new(document.as_bytes(), most, 0));
+    let stream = Interrupted::new(FailingReader::new(document.as_bytes(), most, 0));
+    let mut reader = Recorded::new(stream);
     let mut written = Interrupted::new(FailingWriter::new(alloc, most, 0));
     let mut faults = Interrupted::new(FailingWriter::new(alloc, most, 0));
     let args = arguments(alloc, word);
-    let code = perform(rt, alloc, args, &mut reader, &mut written, &mut faults);
+    let code = perform_recorded(rt, alloc, args, &mut reader, &mut written, &mut faults);
     code == status
         && written.stream().bytes() == output.as_bytes()
         && faults.stream().bytes().is_empty()
@@ -250,11 +252,12 @@ fn interrupted_calls(rt: HostRuntime) {
 /// at most.
 fn is_told<R: Threads + Wait + Sync>(rt: &R, alloc: Global, fault: &Fault, most: usize) -> bool {
     let (word, document, read_that_fails, _, line, status) = *fault;
-    let mut reader = FailingReader::new(document.as_bytes(), 1, read_that_fails);
+    let stream = FailingReader::new(document.as_bytes(), 1, read_that_fails);
+    let mut reader = Recorded::new(stream);
     let mut written = Vec::new(alloc);
     let mut faults = Interrupted::new(FailingWriter::new(alloc, most, 0));
     let args = arguments(alloc, word);
-    let code = perform(rt, alloc, args, &mut reader, &mut written, &mut faults);
+    let code = perform_recorded(rt, alloc, args, &mut reader, &mut written, &mut faults);
     code == status && written.is_empty() && faults.stream().bytes() == line.as_bytes()
 }
 
@@ -282,10 +285,10 @@ fn long_document_in_small_reads(rt: HostRuntime) {
     let alloc = rt.alloc();
     let (word, document, output, _) = ROWS[2];
     let bytes = behind_blanks(alloc, document, 2_000_000).expect(&rt, "memory");
-    let mut reader = FailingReader::new(&bytes, 1, 0);
+    let mut reader = Recorded::new(FailingReader::new(&bytes, 1, 0));
     let mut written = Vec::new(alloc);
     let mut faults = Vec::new(alloc);
     let args = arguments(alloc, word);
-    let status = perform(&rt, alloc, args, &mut reader, &mut written, &mut faults);
+    let status = perform_recorded(&rt, alloc, args, &mut reader, &mut written, &mut faults);
     assert!(rt; status == 0 && written.as_slice() == output.as_bytes());
 }

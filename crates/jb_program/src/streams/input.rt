@@ -35,7 +35,7 @@ pub fn read_all<R: Read>(alloc: Global, reader: &mut R) -> Result<Vec<u8>, Progr
 }
 
 /// Why the input couldn't be read: there was no memory for its bytes, or the stream failed.
-fn unread(error: &Error) -> ProgramError
+pub fn unread(error: &Error) -> ProgramError
     ensures memory { error_kind error.now ≡ ErrorKind.OutOfMemory → result ≡ ProgramError.Memory }
     ensures stream { (error_kind error.now ≡ ErrorKind.OutOfMemory → ⊥) → result ≡ ProgramError.Stream }
 {

@@ -8,21 +8,21 @@ ghost use Rattle.jb_program.specs.UsageText.{wrong_text};
 
 use super::error::ProgramError;
 use super::lines::lines_of;
-use crate::words::{ADVICE, UsageFault};
+use crate::words::UsageFault;
 use jb_texts::{write_joined, write_whole};
 use std::io;
 use std::io::{ErrorKind, Write};
 
-/// Writes that the word is wrong, and where to find what is right.
-fn write_wrong<W: Write>(word: &str, writer: &mut W) -> io::Result<()>
-    ensures whole { OnOk result (Appends (W.contents writer.old) (W.contents writer.new) (wrong_text word.now)) }
-    ensures front { OnErr result (AppendsFront (W.contents writer.old) (W.contents writer.new) (wrong_text word.now)) }
+/// Writes that the word is wrong, and what is right or where to find it.
+fn write_wrong<'a, W: Write>(word: &'a str, advice: &'a str, writer: &mut W) -> io::Result<()>
+    ensures whole { OnOk result (Appends (W.contents writer.old) (W.contents writer.new) (wrong_text word.now advice.now)) }
+    ensures front { OnErr result (AppendsFront (W.contents writer.old) (W.contents writer.new) (wrong_text word.now advice.now)) }
 {
     let texts = [
         "wrong word: `".as_bytes(),
         word.as_bytes(),
         "`\n".as_bytes(),
-        ADVICE.as_bytes(),
+        advice.as_bytes(),
     ];
     write_joined(&texts, writer)
 }
@@ -45,7 +45,9 @@ pub fn write_failure<W: Write>(failure: &ProgramError, writer: &mut W) -> io::Re
     ensures front { OnErr result (AppendsFront (W.contents writer.old) (W.contents writer.new) (failure_text failure.now)) }
 {
     match failure {
-        ProgramError::Usage(UsageFault::Wrong(word)) => write_wrong(word.as_str(), writer),
+        ProgramError::Usage(UsageFault::Wrong(word, reason)) => {
+            write_wrong(word.as_str(), reason.advice(), writer)
+        }
         failure => write_lines(failure, writer),
     }
 }

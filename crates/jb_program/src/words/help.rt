@@ -27,7 +27,7 @@ standard output. WORD says what is done with it:
 
 `help WORD` and `WORD --help` tell what a word reads and prints; `--version`
 prints the version. `run --rounds 0` is a dry run: the document is checked, and
-no record is processed.
+no record is processed. tools/check-document lists all faults of a document.
 
 The exit status says how it went:
 

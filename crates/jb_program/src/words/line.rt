@@ -1,10 +1,11 @@
 //! The command line: the arguments after the program's name.
 
-ghost use Rattle.std.specs.Prelude.{◌≡◌, ◌∷◌, ◌++◌, [], codes, map, option_map, true, false, None, IfErr, IfOk, IfSome};
+ghost use Rattle.std.specs.Prelude.{◌≡◌, ◌<◌, ◌∷◌, ◌++◌, [], codes, length, map, option_map, string_bytes, true, false, None, IfErr, IfOk, IfSome};
 ghost use Rattle.clap.specs.Words.{app_of, subcommand_rows_of, with_subcommand};
-ghost use Rattle.jb_program.specs.CommandLine.{app, help_app, limited_app, program as program_app, request_in, rounds_of_word, topic_at, topic_in, word_app, perform_in, word_in, AreUnknown, Asks, CanBeCompleted, CannotGoOn, IsWrong};
+ghost use Rattle.jb_program.specs.CommandLine.{app, help_app, limited_app, program as program_app, request_in, rounds_of_word, topic_at, topic_in, word_app, perform_in, word_in, end_in_rounds, reason_after, AreUnknown, Asks, CanBeCompleted, CannotGoOn, IsToldAt, IsWrong};
+ghost use Rattle.jb_program.specs.UsageText.{escaped, shown};
 
-use crate::words::fault::{LineFault, UsageFault};
+use crate::words::fault::{LineFault, Reason, UsageFault};
 use crate::words::help::VERSION;
 use crate::words::request::{Line, Request, Word};
 use clap::error::ErrorKind;
@@ -20,6 +21,7 @@ fn program<'a>(alloc: Global) -> Command<'a>
         .no_binary_name(true)
         .disable_help_subcommand(true)
         .version(VERSION)
+        .propagate_version(true)
 }
 
 /// The program with a word more, which takes no arguments.
@@ -88,7 +90,7 @@ fn topic_of(name: Option<&str>) -> Option<Request>
     ensures { result ≡ topic_in (option_map (λ n. n.now) name.entry) }
 {
     match name {
-        None => Some(Request::Help(None)),
+        None | Some("help") => Some(Request::Help(None)),
         Some(name) => match word_of(name) {
             Some(word) => Some(Request::Help(Some(word))),
             None => None,
@@ -204,6 +206,64 @@ fn can_go_on<'a>(alloc: Global, words: &'a [&'a str]) -> Result<bool, LineFault>
     Ok(asked(alloc, &longer)?.is_some())
 }
 
+/// Whether the last of these arguments is `--rounds`.
+fn end_in_rounds(words: &[&str]) -> bool
+    ensures { result ≡ end_in_rounds (map (λ w. w.now) words.now) }
+{
+    match words.last() {
+        Some(last) => *last == "--rounds",
+        None => false,
+    }
+}
+
+/// Why an argument is wrong after these.
+fn reason_after(before: &[&str], word: &str) -> Reason
+    ensures { result ≡ reason_after (map (λ w. w.now) before.now) word.now }
+{
+    let bytes = word.as_bytes();
+    if bytes.starts_with("--rounds".as_bytes()) || end_in_rounds(before) {
+        Reason::Rounds
+    } else if topic_before(before).is_some() && !bytes.starts_with("-".as_bytes()) {
+        Reason::Document
+    } else {
+        Reason::Unknown
+    }
+}
+
+/// A character as it is written: a control character by its number, every other one as it is.
+fn shown(alloc: Global, character: char) -> Result<String, AllocError>
+    ensures { IfOk result (λ text. string_bytes text ≡ shown character) }
+{
+    if character.is_control() {
+        let number = character as u32;
+        format!(in alloc; "\\u{{{number:x}}}")
+    } else {
+        format!(in alloc; "{character}")
+    }
+}
+
+/// A word as it is written.
+fn escaped(alloc: Global, word: &str) -> Result<String, AllocError>
+    ensures { IfOk result (λ text. string_bytes text ≡ escaped word.now) }
+{
+    let mut text = String::new(alloc);
+    for character in word.chars() {
+        let shown = shown(alloc, character)?;
+        text.push_str(shown.as_str())?;
+    }
+    Ok(text)
+}
+
+/// What is said of the argument at this place.
+fn told_of<'a>(alloc: Global, words: &'a [&'a str], place: usize) -> Result<UsageFault, AllocError>
+    requires { place < length words.now }
+    ensures { IfOk result (IsToldAt (map (λ w. w.now) words.now) place) }
+{
+    let word = words[place];
+    let text = escaped(alloc, word)?;
+    Ok(UsageFault::Wrong(text, reason_after(&words[..place], word)))
+}
+
 /// The fault of arguments that ask for nothing: the first argument up to which no number after them would help, else the last,
 /// or that there are no arguments.
 fn fault_in<'a>(alloc: Global, words: &'a [&'a str]) -> Result<UsageFault, LineFault>
@@ -211,16 +271,15 @@ fn fault_in<'a>(alloc: Global, words: &'a [&'a str]) -> Result<UsageFault, LineF
     ensures wrong { IfOk result (λ fault. IsWrong fault (Some (map (λ w. w.now) words.now))) }
     ensures err { IfErr result (λ e. e ≡ LineFault.Memory) }
 {
-    let Some((last, others)) = words.split_last() else {
+    let Some((_, others)) = words.split_last() else {
         return Ok(UsageFault::NoWord);
     };
     for place in 0..others.len() {
         if !can_go_on(alloc, &words[..place + 1])? {
-            return Ok(UsageFault::Wrong(words[place].to_string(alloc)?));
+            return Ok(told_of(alloc, words, place)?);
         }
     }
-    let last: &str = last;
-    Ok(UsageFault::Wrong(last.to_string(alloc)?))
+    Ok(told_of(alloc, words, others.len())?)
 }
 
 /// What the arguments after the program's name ask for. If they ask for nothing, they are refused as `Usage`, with the first

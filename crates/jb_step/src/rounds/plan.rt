@@ -1,6 +1,6 @@
 //! A plan for what is left, and its rounds.
 
-ghost use Rattle.std.specs.Prelude.{◌≡◌, ◌+◌, ◌++◌, ◌∷◌, [], false, IfOk, OnOk};
+ghost use Rattle.std.specs.Prelude.{◌≡◌, ◌+◌, ◌<◌, ◌≤◌, ◌++◌, ◌∷◌, [], false, IfOk, OnOk};
 ghost use Rattle.jb_collect.specs.AnsweredCalls.{Grew};
 ghost use Rattle.jb_step.specs.rounds.PlanLaws.{IsTaskTable};
 ghost use Rattle.jb_step.specs.rounds.Runs.{note_of};
@@ -112,7 +112,7 @@ impl<L: StepLedger, G: StepGate, R: StepThreads> RoundRunner<'_, L, G, R> {
     }
 
     /// Runs a least plan for what is left, round after round. It ends after a round with a rollback or a failure, after the last round, at
-    /// a stop, or at the limit. Answers whether the step stops.
+    /// a stop, or at the limit. Answers whether the step stops: if it doesn't, a round was run. Each round attempts a chunk.
     pub(crate) fn run_plan<T: StepTask>(
         &self,
         pool: &mut Pool<T, L>,
@@ -126,6 +126,8 @@ impl<L: StepLedger, G: StepGate, R: StepThreads> RoundRunner<'_, L, G, R> {
         requires few { AreWithin round_limit ran.old.rounds }
         ensures run { IfOk result (λ stopped. IsRunOfStepSoFar prepared.now round_limit stopped (progress T.task_state (analyzed analyzer.old) ran.old) (progress T.task_state (analyzed analyzer.new) ran.new)) }
         ensures table { OnOk result (IsTaskTable prepared.now (table_of T.task_state ran.new)) }
+        ensures on { IfOk result (λ stopped. stopped ≡ false → ran.old.rounds < ran.new.rounds) }
+        ensures busy { OnOk result (ran.new.rounds + ran.old.attempts ≤ ran.new.attempts + ran.old.rounds) }
         ensures grew { Grew (analyzed analyzer.old) (analyzed analyzer.new) }
     {
         lower_laws();
@@ -135,6 +137,8 @@ impl<L: StepLedger, G: StepGate, R: StepThreads> RoundRunner<'_, L, G, R> {
         let plan = self.new_plan(alloc, prepared, ran.held.as_slice())?;
         let cursor = &plan;
         let rounds = cursor.rounds();
+        // There is one thread at least, so each round has a slot.
+        let _threads = cursor.threads();
         for round in 0..rounds {
             let broke = self.next_round(pool, alloc, ran, cursor, round, analyzer)?;
             let over = broke || round + 1 == rounds;

@@ -1,6 +1,6 @@
 //! All rounds of a step.
 
-ghost use Rattle.std.specs.Prelude.{◌≡◌, true, false, IfOk, [], ◌∷◌};
+ghost use Rattle.std.specs.Prelude.{◌≡◌, ◌≤◌, true, false, IfOk, [], ◌∷◌};
 ghost use Rattle.jb_step.specs.rounds.PlanLaws.{IsTaskTable};
 ghost use Rattle.jb_collect.specs.AnsweredCalls.{Grew};
 ghost use Rattle.jb_step.specs.Alone.{have_ended};
@@ -44,7 +44,8 @@ fn has_ended<T: PartitionTask>(place: &Option<T>) -> bool
 
 impl<L: StepLedger, G: StepGate, R: StepThreads> RoundRunner<'_, L, G, R> {
     /// Runs the tasks in rounds, each of a least plan for what is left, until all have ended, or to a stop, or to the limit. `fault` is
-    /// what the analyzer answered before.
+    /// what the analyzer answered before. Each plan runs a round, and each round uses up an attempt of those that the tasks have left, so
+    /// there is an end.
     pub(crate) fn run_rounds<T: StepTask>(
         &self,
         pool: &mut Pool<T, L>,
@@ -59,6 +60,7 @@ impl<L: StepLedger, G: StepGate, R: StepThreads> RoundRunner<'_, L, G, R> {
         ensures run { IfOk result (λ ran. IsRunOfStepSoFar prepared.now round_limit ran.stopped (at_first (moment (analyzed analyzer.old) fault) (table_in T.task_state tasks.items)) (progress T.task_state (analyzed analyzer.new) ran)) }
         ensures ended { IfOk result (λ ran. ran.stopped ≡ false → have_ended (held_in (table_of T.task_state ran)) ≡ true) }
         ensures table { IfOk result (λ ran. IsTaskTable prepared.now (table_of T.task_state ran)) }
+        ensures busy { IfOk result (λ ran. ran.rounds ≤ ran.attempts) }
         ensures grew { Grew (analyzed analyzer.old) (analyzed analyzer.new) }
     {
         lower_laws();
@@ -71,16 +73,13 @@ impl<L: StepLedger, G: StepGate, R: StepThreads> RoundRunner<'_, L, G, R> {
             near: 0,
             stopped: false,
         };
-        for _ in self.rt.forever() {
-            if all_ended(ran.held.as_slice()) {
-                return Ok(ran);
-            }
+        'plans: while !all_ended(ran.held.as_slice()) {
             ran.stopped = self.run_plan(pool, alloc, prepared, &mut ran, analyzer, round_limit)?;
             if ran.stopped {
                 self.stop()?;
                 return Ok(ran);
             }
         }
-        unreachable!()
+        Ok(ran)
     }
 }

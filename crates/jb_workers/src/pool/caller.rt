@@ -84,6 +84,7 @@ fn heard<R: Wait, T: PartitionTask>(
     ensures end { IsPassOf mailbox.now.queue end.new × (view end.new ≡ known true false None) }
     ensures meets { IfSome result (λ answer. MeetsWork T.task_state work.now.value answer) }
 {
+    // It waits for the worker's answer, which ends it. The worker answers each work that it was asked for.
     for _ in rt.forever() {
         match mailbox.hear(rt, end) {
             Some(Message::Answer(answer)) => return Some(answer),

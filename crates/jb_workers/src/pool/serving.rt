@@ -55,6 +55,8 @@ pub(crate) fn serve<L: Ledger, T: PartitionTask, G: Gate, R: Wait>(
 {
     let mut end = end;
     let mut share = share;
+    // It waits for the caller: for the token of a work, or for that of a closed mailbox, which ends it. The caller's end of the mailbox closes
+    // it when it is dropped.
     for _ in rt.forever() {
         if let Some(next) = mailbox.take(rt, &mut end) {
             share = do_asked(desk, rt, alloc, gate, mailbox, &mut end, next, share);

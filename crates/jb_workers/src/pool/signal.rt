@@ -39,6 +39,7 @@ impl Signal {
     pub(crate) fn wait<R: Wait>(&self, rt: &R) {
         self.look();
         self.exchange(NOT_GIVEN, ASLEEP);
+        // It waits for the other thread, whose `give` ends it. A sleep that ends without a token begins again.
         for _ in rt.forever() {
             if self.exchange(GIVEN, NOT_GIVEN) {
                 return;

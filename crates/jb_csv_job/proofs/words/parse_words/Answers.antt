@@ -48,7 +48,7 @@ returns c =
     let fault = c.in-Err.fault in
     let P : App → Type 0 = λ app. is_simple_and_free app ≡ true → HasKind (fault_of app words) fault in
     let kinds : HasKind (fault_of (job_app name own) words) fault = subst P c.in_ok-command.ensures c.in-Err.ensures.kinds (is_free name own) in
-    let other = c.in_default-kind in
+    let other = c.in_default in
     record {
       asks = tt;
       refused = (

@@ -9,6 +9,7 @@ use Rattle.jb_step.specs.inside.rounds.Round.{Progress, progress}
 use Rattle.jb_step.specs.inside.rounds.SoFar.{AreWithin, IsPlanFor, plan_run_of}
 use Rattle.jb_step.proofs.calls.Growing.{grew-more, grew-none}
 use Rattle.jb_step.proofs.table.Numbers.{below-of}
+use Rattle.jb_step.proofs.run.Short.{round-has-one}
 use Rattle.jb_step.proofs.run.SoFar.{ends, goes-on, long-plan, none-run, open-can-run, opens, ready-of, table-round}
 use Rattle.jb_step.proofs.rounds.runner.RoundRunner.run_plan.Goals as goal
 use Rattle.jb_step.proofs.rounds.runner.RoundRunner.run_plan.Goals.{then-broke, else-broke}
@@ -23,6 +24,9 @@ in-plan load rounds round long lt = omega (arith, lt, long, long-plan load)
 pub returns-then-is_cut-clause-run : goal.returns-then-is_cut-clause-run
 returns-then-is_cut-clause-run g c = none-run _ _ _ _ c.requires.few
 
+pub returns-then-is_cut-clause-on : goal.returns-then-is_cut-clause-on
+returns-then-is_cut-clause-on g c = λ going. (let never : true ≡ false = going in cc)
+
 pub loop-round-init : goal.loop-round-init
 loop-round-init g c =
     let made = made-for g.T.PartitionTask.task_state c.args.prepared.now c.in_ok-plan.plan _ c.args.ran.now.held.items c.as_slice.ensures.value c.in_ok-plan.ensures in
@@ -31,6 +35,7 @@ loop-round-init g c =
       omega (arith, some, long-plan c.in_ok-plan.plan, c.rounds-rounds.ensures.length),
       c.is_cut.ensures c.if-is_cut.false,
       grew-none _,
+      omega arith,
     )
 
 pub next_round-requires-clause-placed : goal.next_round-requires-clause-placed
@@ -95,7 +100,31 @@ loop-round-preserved g c =
       quiet.1,
       c.is_cut-else-over.ensures c.if-is_cut-2.false,
       grew-more _ _ _ c.loop-round.invariant.3 c.in_ok-broke.ensures.grew,
+      (let now = c.in_ok-broke.ensures.round.left.rounds_are in
+          let tried = c.in_ok-broke.ensures.round.left.attempts_are in
+          let bound = c.rounds-rounds.ensures.bound in
+          let one = round-has-one load round _ c.threads-threads.ensures.limits.some_thread (omega (arith, bound, lt)) c.loop-round.invariant.0.table.placed (open-can-run c.lower_laws.ensures c.args.prepared.now load first made c.requires.table round here _ c.loop-round.invariant.0) in
+          let before = c.loop-round.invariant.4 in
+          omega (arith, now, tried, one, before)),
     )
 
 pub unreachable-requires : goal.unreachable-requires
 unreachable-requires g c = let lt = c.loop-round.invariant.1 in omega (arith, lt, c.loop-round-test.false)
+
+pub returns-then-over-clause-on : goal.returns-then-over-clause-on
+returns-then-over-clause-on g c = λ going. (let now = c.in_ok-broke.ensures.round.left.rounds_are in let before = c.loop-round.invariant.0.left.rounds_are in omega (arith, now, before))
+
+pub returns-then-over-clause-busy : goal.returns-then-over-clause-busy
+returns-then-over-clause-busy g c =
+    let load = c.in_ok-plan.plan in
+    let first : Progress = progress g.T.PartitionTask.task_state ((goal.Analyzer-dyn g c.args.analyzer.now).analyzed c.args.analyzer.now.1) c.args.ran.now in
+    let made = made-for g.T.PartitionTask.task_state c.args.prepared.now load _ c.args.ran.now.held.items c.as_slice.ensures.value c.in_ok-plan.ensures in
+    let here = in-plan load c.rounds-rounds.result c.loop-round.round c.rounds-rounds.ensures.length c.loop-round-test.true in
+    let round = c.loop-round.round in
+    let lt = c.loop-round-test.true in
+    let bound = c.rounds-rounds.ensures.bound in
+    let one = round-has-one load round _ c.threads-threads.ensures.limits.some_thread (omega (arith, bound, lt)) c.loop-round.invariant.0.table.placed (open-can-run c.lower_laws.ensures c.args.prepared.now load first made c.requires.table round here _ c.loop-round.invariant.0) in
+    let now = c.in_ok-broke.ensures.round.left.rounds_are in
+    let tried = c.in_ok-broke.ensures.round.left.attempts_are in
+    let before = c.loop-round.invariant.4 in
+    omega (arith, now, tried, one, before)

@@ -1,4 +1,4 @@
-use Rattle.std.proofs.Common.{◌+◌, ◌<◌}
+use Rattle.std.proofs.Common.{◌+◌, ◌<◌, ◌≤◌}
 use Rattle.jb_collect.specs.AnsweredCalls.{Grew}
 use Rattle.jb_step.specs.inside.rounds.Round.{progress}
 use Rattle.jb_step.specs.inside.rounds.SoFar.{AreWithin, IsOpen}
@@ -12,3 +12,4 @@ invariant-loop-round g l =
     × (l.round < l.rounds)
     × AreWithin l.round_limit (l.ran.rounds + 1)
     × Grew calls later
+    × (l.ran.rounds + l.fn.ran.attempts ≤ l.ran.attempts + l.fn.ran.rounds)

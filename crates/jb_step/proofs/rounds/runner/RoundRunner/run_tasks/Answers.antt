@@ -9,6 +9,8 @@ use Rattle.jb_step.specs.inside.callbacks.Telling.{moment}
 use Rattle.jb_step.specs.rounds.PlanLaws.{IsTaskTable}
 use Rattle.jb_step.proofs.Heading.{headline-of}
 use Rattle.jb_step.proofs.calls.Growing.{grew-more}
+use Rattle.jb_step.proofs.run.ShortRun.{short-is}
+use Rattle.jb_step.proofs.run.SoFar.{ready-of}
 use Rattle.jb_step.proofs.run.Stepping.{IsLeft, run-is, way-is, heard-fault}
 use Rattle.jb_step.proofs.rounds.runner.RoundRunner.run_tasks.Goals as goal
 
@@ -91,3 +93,8 @@ returns-then-not-are_numbers-clause-grew g c = grew-more _ _ _ (grew-more _ _ _ 
 
 pub returns-in_err-artifacts-clause-grew : goal.returns-in_err-artifacts-clause-grew
 returns-in_err-artifacts-clause-grew g c = grew-more _ _ _ (grew-more _ _ _ c.tell_first.ensures.grew c.run_rounds.ensures.grew) c.tell_last.ensures.grew
+
+pub returns-clause-short : goal.returns-clause-short
+unfolding left
+returns-clause-short g c =
+    short-is c.lower_laws.ensures.short (run-of g c) (fault g c) (left g c) (ready-of c.args.prepared.now _ (first-is g c).0.tasks) c.in_ok-ran.ensures.busy

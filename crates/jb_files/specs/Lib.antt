@@ -1,0 +1,1 @@
+-- This crate has no definition: no contract can say what a file or a stream is.
