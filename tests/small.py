@@ -1,5 +1,7 @@
 """A payroll of a job that the environment varies, as JOB_SLICE_LENGTH=10, built as its sources stand, with nothing proved. One build serves all
-scripts that need short slices, limits of skips, or another identity: crates/payroll/out/small has it, until a source changes."""
+scripts that need short slices, limits of skips, or another identity: crates/payroll/out/small has it, until a source changes. If several ask for
+it at once, the first builds it and the others wait."""
+import fcntl
 import os
 import pathlib
 import re
@@ -44,11 +46,14 @@ def make_room():
 
 def built():
     """The path of the program. It is built if it isn't there, or if a source changed since."""
-    make_room()
-    small = program.Program(ROOM, NAME)
-    build = program.unproved_build(small)
-    if not build.is_current():
-        unproved.compile_unproved(small)
+    ROOM.mkdir(parents=True, exist_ok=True)
+    with open(ROOM / "lock", "w", encoding="utf-8") as lock:
+        fcntl.flock(lock, fcntl.LOCK_EX)
+        make_room()
+        small = program.Program(ROOM, NAME)
+        build = program.unproved_build(small)
+        if not build.is_current():
+            unproved.compile_unproved(small)
     return str(build.files[1])
 
 

@@ -7,10 +7,11 @@ import re
 from zurnaskil import reports
 
 BLOCK = 1 << 20  # bytes
-KEY = re.compile(rb'"records"\s*+:\s*+\[')  # a quote within a text has a backslash before it, so this is a key
-TEXT = rb'"(?:[^"\\]++|\\.)*+"'
-TEXTS = re.compile(rb"(?:\s*+" + TEXT + rb"\s*+,)++", re.DOTALL)  # each with the comma behind it
-LAST = re.compile(rb"\s*+(" + TEXT + rb")?+\s*+\]", re.DOTALL)
+# No quantifier is possessive: Python 3.11.2, that of Debian 12, matches such ones wrongly. A text can be matched in one way only.
+KEY = re.compile(rb'"records"\s*:\s*\[')  # a quote within a text has a backslash before it, so this is a key
+TEXT = rb'"[^"\\]*(?:\\.[^"\\]*)*"'
+TEXTS = re.compile(rb"(?:\s*" + TEXT + rb"\s*,){1,100}", re.DOTALL)  # each with the comma behind it; a match takes memory for each
+LAST = re.compile(rb"\s*(" + TEXT + rb")?\s*\]", re.DOTALL)
 
 
 class JobFile:
@@ -76,10 +77,10 @@ class Texts:
         """Texts with commas between them, as they stand in the file, many at a time."""
         buffer, has_some = self.file.read(BLOCK), False
         while True:
-            texts = TEXTS.match(buffer)
-            if texts:
-                yield texts[0][:-1]
-                buffer, has_some = buffer[texts.end() :], True
+            end = end_of_texts(buffer)
+            if end:
+                yield buffer[: end - 1]
+                buffer, has_some = buffer[end:], True
             last = LAST.match(buffer)
             if last:
                 reports.checked(last[1] or not has_some, f"{self.path} isn't JSON")
@@ -90,6 +91,14 @@ class Texts:
             more = self.file.read(BLOCK)
             reports.checked(more and len(buffer) < BLOCK, f"{self.path} isn't JSON, or its records are no texts")
             buffer += more
+
+
+def end_of_texts(buffer):
+    """Where the last of the texts that begin the buffer ends, with the comma behind it."""
+    end = 0
+    while texts := TEXTS.match(buffer, end):
+        end = texts.end()
+    return end
 
 
 class Handed:
