@@ -25,7 +25,7 @@ class Program:
 
 ROUND = ("jb_base", "jb_rules", "jb_artifacts", "jb_chunk", "jb_cert", "jb_repo", "jb_workers")
 STEP = ("jb_base", "jb_job", "jb_plan", "jb_rules", "jb_mapper", "jb_artifacts", "jb_chunk", "jb_repo", "jb_workers", "jb_collect", "jb_step")
-RECORDS = ("jb_base", "jb_rows", "jb_answers", "jb_collect", "jb_records", "csv")
+RECORDS = ("jb_base", "jb_ready", "jb_rows", "jb_collect", "jb_records", "csv")
 PAYROLL = ("src/clerk.rt", "src/sheet.rt", "specs/Sheets.antt")
 SAVED = b'{"rows":[[0,39000,12345,12400,37,12100,12340,12100,131,41,5,140,100,0,12,"waiting"]],"step":"pay","version":2}\n'
 
@@ -87,9 +87,9 @@ def lay_out(name, room, left_out=()):
     return folder
 
 
-def command(verb, name):
-    """The words that have `rt` build the program and run it once, in its crate's folder."""
-    return [shutil.which("rt") or "/opt/rattle/bin/rt", verb, "--", *PROGRAMS[name].words]
+def command(name):
+    """The words that have `rt` prove and build the program and run it once, in its crate's folder."""
+    return [shutil.which("rt") or "/opt/rattle/bin/rt", "run", "--", *PROGRAMS[name].words]
 
 
 def build(name, room, change=None):
@@ -102,7 +102,7 @@ def build(name, room, change=None):
     crate = lay_out(name, room)
     if change:
         change(room)
-    ran = subprocess.run(command("run", name), cwd=crate, input=program.given, capture_output=True)
+    ran = subprocess.run(command(name), cwd=crate, input=program.given, capture_output=True)
     built = os.path.join(crate, "out", program.like or name)
     if ran.returncode or not os.path.exists(built):
         sys.exit(ran.stderr.decode(errors="replace") + f"the program {name} isn't built")

@@ -2,6 +2,7 @@
 which one is killed, and what the files of its slices have to keep."""
 import contextlib
 import csv
+import functools
 import io
 import os
 import pathlib
@@ -9,6 +10,7 @@ import re
 import sqlite3
 import subprocess
 import sys
+import tempfile
 
 TOP = pathlib.Path(__file__).resolve().parent.parent
 sys.path.append(str(TOP / "tools"))
@@ -20,6 +22,9 @@ TABLE = "CREATE TABLE checkpoint (number INTEGER PRIMARY KEY, saved TEXT NOT NUL
 COMPLETED, FAILED, STOPPED, REFUSED, LATER, WORDS = 0, 1, 2, 3, 4, 5  # exit statuses
 LONGEST = 120  # seconds of a run
 IN_MEMORY = "/dev/shm" if os.access("/dev/shm", os.W_OK) else None  # a run waits for the disk at each checkpoint, and here it needn't
+if IN_MEMORY:
+    tempfile.tempdir = os.environ["TMPDIR"] = IN_MEMORY  # for copies of files too, and for tools that are run
+KNOWN = 256  # lists of checkpoints of which it is known what they say
 NAMED = re.compile(rb"[A-Z][A-Za-z]+(\([A-Za-z0-9() ]+\))?: [^\n]+\n")  # the line of a refusal, on standard error
 THREADS = [1, 2, 3, 4, 8, 64]
 LENGTHS = [254, 255, 256, 509, 510, 511]  # of names, in bytes: about those at which a size takes one byte more
@@ -51,13 +56,14 @@ class Sheets:
     def __init__(self, pairs):
         self.pairs = list(pairs)
         self.text = text_of(line for line, _ in self.pairs)
+        self.all_slips = text_of(slip for _, slip in self.pairs if slip is not None)
 
     def __len__(self):
         return len(self.pairs)
 
     def slips(self, count=None):
         """The pay slips of the first time sheets, as the program writes them."""
-        return text_of(slip for _, slip in self.pairs[:count] if slip is not None)
+        return self.all_slips if count is None else text_of(slip for _, slip in self.pairs[:count] if slip is not None)
 
     def skips(self, count=None):
         return sum(slip is None for _, slip in self.pairs[:count])
@@ -171,16 +177,28 @@ def faults_in(number, kept, before):
         if own != link:
             yield f"checkpoint {place} of slice {number} has another link than it must have"
     try:
-        found = slices.slice_in([(saved, results) for _, saved, results, _ in kept])
-        if found.header["slice"] != number or not has_results(found, kept):
+        found, is_whole = slice_by(rows_of(kept))
+        if found.header["slice"] != number or not is_whole:
             yield f"the results of slice {number} aren't as many packed records as its rows say, or it is another slice"
     except checkpoints.Refused as refused:
         yield f"slice {number}: {refused}"
 
 
-def has_results(found, kept):
+def rows_of(kept):
+    """Of each checkpoint its text and its results."""
+    return tuple(row[1:3] for row in kept)
+
+
+@functools.lru_cache(KNOWN)
+def slice_by(rows):
+    """The slice that these checkpoints say, and whether it has its results. Most runs end with checkpoints that others had."""
+    found = slices.slice_in(rows)
+    return found, has_results(found, rows)
+
+
+def has_results(found, rows):
     """Whether each partition has as many results, over all checkpoints, as its row has written, and each is a packed record."""
-    news = [slices.news_of(coded, found.header["partitions"])[1] for _, _, coded, _ in kept[1:]]
+    news = [slices.news_of(coded, found.header["partitions"])[1] for _, coded in rows[1:]]
     if any(slices.fields_in(packed) is None for new in news for results, _, _ in new for packed in results):
         return False
     written = [sum(len(new[place][0]) for new in news) for place in range(len(found.rows))]
@@ -190,8 +208,13 @@ def has_results(found, kept):
 
 def slips_in(folder):
     """All pay slips that a folder has, slice by slice, as lines of CSV."""
-    results = [result for _, kept in sorted(kept_in(folder).items()) for result in slices.results_in([row[1:3] for row in kept])]
-    return lines_of(map(slices.fields_in, results))
+    return b"".join(slips_by(rows_of(kept)) for _, kept in sorted(kept_in(folder).items()))
+
+
+@functools.lru_cache(KNOWN)
+def slips_by(rows):
+    """The pay slips of a slice with these checkpoints."""
+    return lines_of(map(slices.fields_in, slices.results_in(rows)))
 
 
 def lines_of(records):

@@ -124,7 +124,8 @@ static long made(const struct call *call, long length) {
     return answer < 0 ? -errno : answer;
 }
 
-static void end_by(int signal) { syscall(SYS_kill, syscall(SYS_getpid), signal); }
+/* The signal goes to this thread, which then makes no call more, and stops or ends all others. */
+static void end_by(int signal) { syscall(SYS_tgkill, syscall(SYS_getpid), syscall(SYS_gettid), signal); }
 
 /* What the program is told of a call that goes wrong. A close that fails has closed the file. */
 static long hostile(struct call *call, const char *how) {

@@ -5,6 +5,7 @@ import collections
 import concurrent.futures
 import contextlib
 import dataclasses
+import functools
 import os
 import pathlib
 import random
@@ -27,6 +28,7 @@ LAST = 2**63  # the number of no call
 FOLDER, OUTPUT, SKIPPED = "job", "out.csv", "skipped.csv"
 TOLD = re.compile(rb"slice (\d+): (\d+) time sheets done")
 MOST_LINES = 20  # that are printed
+FEW = 3  # with --few there is one try for so many
 
 
 # ---- calls
@@ -108,17 +110,18 @@ def calls_in(content):
 
 @dataclasses.dataclass
 class Payroll:
-    """A payroll: its name, its time sheets and its job; whether it writes files or standard output, and which files are there before."""
+    """A payroll: its name, its time sheets and its job; whether it writes files or standard output, which files are there before, and its folder."""
 
     name: str
     sheets: durable.Sheets
     job: dict
     has_files: bool = True
     older: dict = dataclasses.field(default_factory=dict)
+    folder: str = FOLDER
 
     def words(self, program, root):
         files = ["--output", f"{root}/{OUTPUT}", "--skipped", f"{root}/{SKIPPED}"] if self.has_files else []
-        return durable.words_of(program, f"{root}/{FOLDER}", files, 1)
+        return durable.words_of(program, f"{root}/{self.folder}", files, 1)
 
     @contextlib.contextmanager
     def input(self):
@@ -132,6 +135,7 @@ class Payroll:
         """What it writes on standard output."""
         return b"" if self.has_files else self.sheets.slips()
 
+    @functools.cached_property
     def files(self):
         """The files that it leaves, by their names."""
         if not self.has_files:
@@ -140,16 +144,20 @@ class Payroll:
         skipped = [b"%d,%d,no pay slip,%b" % (at, at + 1, line) for at, line in lines if self.sheets.pairs[at][1] is None]
         return {OUTPUT: self.sheets.slips(), SKIPPED: b"".join(skipped)}
 
-    def run(self, program, place, root, *hostile, **more):
-        """A run below a root, in which these calls go wrong: how it ended, and its calls. One that takes too long is killed, and has no status."""
-        words = self.words(program, root)
-        with self.input() as sheets, tempfile.TemporaryFile(dir=durable.IN_MEMORY) as reports:
-            environment = durable.environment_of(self.job) | environment_of(place, *hostile, CALLS=reports.fileno(), **more)
-            streams = {"stdin": sheets, "capture_output": True, "pass_fds": [reports.fileno()]}
+    def run(self, program, place, root, *hostile, passed=(), **more):
+        """How a run below a root ended, in which these calls go wrong. One that takes too long is killed, and has no status."""
+        words, environment = self.words(program, root), durable.environment_of(self.job) | environment_of(place, *hostile, **more)
+        with self.input() as sheets:
+            streams = {"stdin": sheets, "capture_output": True, "pass_fds": passed}
             try:
-                done = subprocess.run(words, env=environment, timeout=durable.LONGEST, **streams)
+                return subprocess.run(words, env=environment, timeout=durable.LONGEST, **streams)
             except subprocess.TimeoutExpired as late:
-                done = subprocess.CompletedProcess(words, None, late.stdout or b"", late.stderr or b"")
+                return subprocess.CompletedProcess(words, None, late.stdout or b"", late.stderr or b"")
+
+    def reported_run(self, program, place, root, *hostile):
+        """The same, and its calls."""
+        with tempfile.TemporaryFile(dir=durable.IN_MEMORY) as reports:
+            done = self.run(program, place, root, *hostile, CALLS=reports.fileno(), passed=[reports.fileno()])
             reports.seek(0)
             return done, calls_in(reports.read())
 
@@ -158,7 +166,7 @@ class Payroll:
         if (done.returncode, done.stdout) != (0, self.output()):
             yield durable.told(done)
         found = files_in(root)
-        yield from (f"{name} isn't whole" for name, content in self.files().items() if found.get(name) != content)
+        yield from (f"{name} isn't whole" for name, content in self.files.items() if found.get(name) != content)
 
     def faults_of_told(self, error, kept):
         """A line for each slice of which more was told on standard error than its checkpoints have."""
@@ -170,7 +178,7 @@ class Payroll:
 
     def faults_of_files(self, found, before, has_ended):
         """A line for each file that is neither whole nor as it was before, or isn't whole though its run had ended."""
-        for name, content in self.files().items():
+        for name, content in self.files.items():
             here = found.get(name)
             if here != content and (has_ended or here != before.get(name)):
                 yield f"{name} has {'no' if here is None else len(here)} bytes, and must have {len(content)}"
@@ -183,7 +191,7 @@ def files_in(root):
 
 def done_in(kept, number):
     """How many records of a slice are done by its checkpoints."""
-    rows = durable.slices.slice_in([row[1:3] for row in kept[number]]).rows if number in kept else []
+    rows = durable.slice_by(durable.rows_of(kept[number]))[0].rows if number in kept else []
     return sum(row.at - row.lo for row in rows)
 
 
@@ -228,8 +236,14 @@ def parser_of(document):
     parser.add_argument("--seed", type=int, default=1, metavar="N")
     parser.add_argument("--only", metavar="NAME")
     parser.add_argument("--whole", action="store_true")
+    parser.add_argument("--few", action="store_true")
     parser.add_argument("program", nargs="?")
     return parser
+
+
+def many(asked, number):
+    """So many tries, or a third of them."""
+    return number // FEW if asked.few else number
 
 
 def program_of(asked):

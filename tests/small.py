@@ -15,7 +15,7 @@ NAME = "payroll"
 OWN = TOP / "crates" / NAME
 ROOM = OWN / "out" / "small"
 MAIN = pathlib.Path(__file__).with_name("small.rt.in")
-MORE = "jb_base jb_answers jb_collect jb_records jb_rows jb_csv_job csv".split()  # what this main uses beside the payroll's own libraries
+MORE = "jb_base jb_collect jb_ready jb_records jb_rows jb_csv_job csv".split()  # what this main uses beside the payroll's own libraries
 JOB = re.compile(r"^const JOB: .*?^};$", re.M | re.S)
 
 

@@ -9,7 +9,8 @@ from . import limits
 from .rules.plans import even_ranges
 
 A_TASK, MINUTES = 64_000_000, 5  # bytes of memory and minutes of any task
-A_THREAD = 70_000_000  # bytes of address space for each thread but the first: its stack, and the 64 MiB that the C library reserves for it
+# Bytes of address space: for the thread of the work, and for each one more. Each has a stack, and 64 MiB that the C library reserves for it.
+THE_WORK, A_THREAD = 80_000_000, 70_000_000
 # Of what is counted: how many bytes of memory one takes, and how many of them are done in a minute.
 BYTES_OF_ONE = {"bytes": 40, "records": 300, "values": 1_500, "entries": 400, "attempts": 700}
 IN_A_MINUTE = {"bytes": 200_000_000, "records": 1_000_000, "values": 1_000_000, "attempts": 100_000, "repeated": 100_000_000}
@@ -144,7 +145,7 @@ def bytes_of(counts):
 
 def space_on(threads, memory=A_TASK):
     """The bytes of address space under which the answer of a task of so much memory is whole."""
-    return memory + A_THREAD * (threads - 1)
+    return memory + THE_WORK + A_THREAD * (threads - 1)
 
 
 def space_of(document, length):

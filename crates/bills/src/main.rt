@@ -19,9 +19,12 @@ use jb_base::{MAX_RECORDS, PackedList};
 use jb_collect::Status;
 use jb_files::hold_closed_streams;
 use jb_rows::{Rows, RowsError, RowsOptions, RowsReader, RowsWriter};
+use jb_stack::{AnyAnswer, limits_of, run_apart};
 use std::alloc::Global;
 use std::io::{self, Read, Write};
 use std::process::ExitCode;
+use std::sync::Wait;
+use std::thread::Threads;
 use step::{BillArtifacts, run};
 
 /// The usage on a stream, each record packed, if it has no more records than a step may have.
@@ -51,39 +54,39 @@ fn write_bills<W: Write + Drop>(
 }
 
 /// Says which records a partition skipped.
-fn tell_skips(rt: &HostRuntime, artifacts: &BillArtifacts) -> io::Result<()> {
+fn tell_skips(host: &HostRuntime, artifacts: &BillArtifacts) -> io::Result<()> {
     for note in artifacts.reader.notes.kept() {
-        eprintln!(rt; "record {} is skipped", note.number)?;
+        eprintln!(host; "record {} is skipped", note.number)?;
     }
     Ok(())
 }
 
-fn main(rt: HostRuntime) -> io::Result<ExitCode> {
-    hold_closed_streams(&rt);
-    let alloc = rt.alloc();
-    let usage = match usage_in(alloc, rt.stdin()) {
+/// The job over the standard streams.
+fn answer<R: Threads + Wait + Sync>(rt: &R, host: &HostRuntime) -> io::Result<ExitCode> {
+    let alloc = host.alloc();
+    let usage = match usage_in(alloc, host.stdin()) {
         Ok(Some(usage)) => usage,
         Ok(None) => {
-            eprintln!(rt; "more than {MAX_RECORDS} records")?;
+            eprintln!(host; "more than {MAX_RECORDS} records")?;
             return Ok(ExitCode::from(3));
         }
         Err(error) => {
-            eprintln!(rt; "{error}")?;
+            eprintln!(host; "{error}")?;
             return Ok(ExitCode::from(3));
         }
     };
-    let end = match run(&rt, alloc, usage) {
+    let end = match run(rt, alloc, usage) {
         Ok(end) => end,
         Err(error) => {
-            eprintln!(rt; "{error}")?;
+            eprintln!(host; "{error}")?;
             return Ok(ExitCode::from(3));
         }
     };
     for (_, artifacts) in &end.artifacts {
-        tell_skips(&rt, artifacts)?;
+        tell_skips(host, artifacts)?;
     }
-    if let Err(error) = write_bills(alloc, &end.artifacts, rt.stdout()) {
-        eprintln!(rt; "{error}")?;
+    if let Err(error) = write_bills(alloc, &end.artifacts, host.stdout()) {
+        eprintln!(host; "{error}")?;
         return Ok(ExitCode::from(3));
     }
     Ok(ExitCode::from(if end.status == Status::Completed {
@@ -91,4 +94,16 @@ fn main(rt: HostRuntime) -> io::Result<ExitCode> {
     } else {
         1
     }))
+}
+
+fn main(rt: HostRuntime) -> io::Result<ExitCode> {
+    hold_closed_streams(&rt);
+    let work = move || answer(&rt, &rt);
+    match run_apart(&rt, &limits_of(&rt), AnyAnswer, work) {
+        Some(answer) => answer,
+        None => {
+            eprintln!(rt; "out of memory")?;
+            Ok(ExitCode::from(4))
+        }
+    }
 }

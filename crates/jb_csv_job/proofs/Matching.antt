@@ -39,6 +39,8 @@ module _ (m : ArgMatches) (name : Text) (own : Option Text) (words : List Text) 
 pub refused-by : (name : Text) (own : Option Text) (words : List Text) (e : CsvJobError) → IsWrong (first_at name own words) e → AreRefused name own words e
 refused-by name own words (failure.Words (fault.Threads value)) wrong = wrong
 refused-by name own words (failure.Words (fault.Records value)) wrong = wrong
+refused-by name own words (failure.Words (fault.Bytes value)) wrong = wrong
+refused-by name own words (failure.Words (fault.Sha256 value)) wrong = wrong
 refused-by name own words (failure.Words (fault.Part value)) wrong = wrong
 refused-by name own words (failure.Words fault.PartAndCollect) wrong = wrong
 refused-by name own words (failure.Words fault.PartAndOutput) wrong = wrong

@@ -1,6 +1,6 @@
 -- The lines of the list of skipped records.
 use Rattle.std.{proofs.Common.{◌≡◌, ℕ, ◌+◌, ◌<◌, List, [], ◌∷◌, ◌++◌, ap, append_assoc, arith, length, map, refl, take}, specs.Prelude.{slice_index_or}, proofs.lemmas.List.{map_more, map_push}, proofs.lemmas.Option.{slice_get-map}}
-use Rattle.jb_answers.specs.{Classes.{class_name}, declared.fault_class.FaultClass.{FaultClass}}
+use Rattle.jb_ready.specs.{FaultClasses.{class_name}, declared.fault_class.FaultClass.{FaultClass}}
 use Rattle.jb_base.specs.declared.class.ClassId.{ClassId}
 use Rattle.jb_rows.{specs.Fields.{Fields, fields_in, packed, packed_field}, proofs.Packing.{fields-first, first-packed}}
 use Rattle.jb_csv_job.specs.Skipped.{name_in}

@@ -1,9 +1,15 @@
 -- What the values of a command line's options say.
-use Rattle.std.specs.Prelude.{◌≡◌, ◌==◌, ◌&&◌, ◌<◌, ◌≤◌, ℕ, Bool, true, false, List, length, nat_le, nat_lt, Option, Some, None, option_and_then, if◌then◌else◌, IfSome}
+use Rattle.std.specs.Prelude.{◌≡◌, ◌==◌, ◌&&◌, ◌<◌, ◌≤◌, ℕ, Bool, true, false, List, length, nat_le, nat_lt, Option, Some, None, option_and_then, if◌then◌else◌}
 use Rattle.std.specs.List.{after_first, before_first, position_or_len}
 use Rattle.jb_csv_job.specs.declared.asked.Task.{Task}
 use Rattle.jb_csv_job.specs.declared.asked.Task.TheVariants.{Run, Part, Collect}
+use Rattle.std.specs.Result.{result_ok}
+use Rattle.hex.specs.Hex.{decode_sized}
 use Rattle.jb_rows.specs.Numbers.{number_of}
+
+-- the bytes that 64 hexadecimal digits write
+abbrev pub digest_in : List ℕ → Option (List ℕ)
+digest_in text = result_ok (decode_sized text 32)
 
 -- a part is one of so many
 abbrev pub IsInParts : Task → Type 0
@@ -29,6 +35,7 @@ task_in true None = Some Collect
 task_in false (Some text) = part_of text
 task_in true (Some text) = None
 
--- so many records are read, up to the end of the input or not: as many as `--records` says, or not yet more
+-- so many records are read, up to the end of the input or not: as many as `--records` says, or not yet more; at least one, if it says nothing
 abbrev pub AreAsMany : (asked : Option ℕ) → (read : ℕ) → (is_end : Bool) → Type 0
-AreAsMany asked read is_end = IfSome asked (λ n. (read ≤ n) × (is_end ≡ true → read ≡ n))
+AreAsMany (Some n) read is_end = (read ≤ n) × (is_end ≡ true → read ≡ n)
+AreAsMany None read is_end = is_end ≡ true → 1 ≤ read

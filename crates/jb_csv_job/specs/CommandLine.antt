@@ -7,7 +7,7 @@ use Rattle.clap.specs.declared.builder.action.ArgAction.TheVariants.{Append, Set
 use Rattle.clap.specs.declared.error.kind.ErrorKind.{ErrorKind}
 use Rattle.clap.specs.declared.error.kind.ErrorKind.TheVariants.{DisplayHelp, DisplayVersion}
 use Rattle.jb_base.specs.Limits.{max_threads}
-use Rattle.jb_csv_job.specs.Asking.{number_between, part_of, task_in}
+use Rattle.jb_csv_job.specs.Asking.{digest_in, number_between, part_of, task_in}
 use Rattle.jb_csv_job.specs.declared.asked.Asked.{Asked}
 use Rattle.jb_csv_job.specs.declared.failure.CsvJobError.{CsvJobError}
 use Rattle.jb_csv_job.specs.declared.failure.CsvJobError.TheVariants as failure
@@ -43,9 +43,9 @@ abbrev pub program : Text → App
 program name = record (new_app name) { top = record (new_app name).top { no_binary_name = true; has_version = true } }
 
 abbrev pub job_app : (name : Text) → (own : Option Text) → App
-job_app name own = with_rule (with_own (with_rule (with_rule (with_rule (with_rule (with_rule (with_rule (with_rule (program name)
+job_app name own = with_rule (with_own (with_rule (with_rule (with_rule (with_rule (with_rule (with_rule (with_rule (with_rule (with_rule (program name)
     (option_rule (codes "threads"))) (option_rule (codes "part"))) (flag_rule (codes "collect"))) (many_rule (codes "keep-stamp"))) (option_rule (codes "output"))) (option_rule (codes "skipped")))
-    (option_rule (codes "records"))) own) folder_rule
+    (option_rule (codes "records"))) (option_rule (codes "bytes"))) (option_rule (codes "sha256"))) own) folder_rule
 
 -- ---- what their values ask for, by the first value of an option, and by all of them
 
@@ -60,6 +60,8 @@ pub record IsLine (first : Text → Option Text) (all : Text → Option (List Te
   pub stamps : map string_bytes asked.stamps.items ≡ unwrap_or (all (codes "keep-stamp")) []
   pub task : task_in (is_collect (first (codes "collect"))) (first (codes "part")) ≡ Some asked.task
   pub records : asked.records ≡ option_and_then (number_between 0 (2 ^ 64 - 1)) (first (codes "records"))
+  pub bytes : asked.bytes ≡ option_and_then (number_between 0 (2 ^ 64 - 1)) (first (codes "bytes"))
+  pub sha256 : asked.sha256 ≡ option_and_then digest_in (first (codes "sha256"))
   pub output : option_map string_bytes asked.output ≡ first (codes "output")
   pub skipped : option_map string_bytes asked.skipped ≡ first (codes "skipped")
   pub own_is : option_map string_bytes asked.own ≡ option_and_then first own
@@ -68,6 +70,8 @@ pub record IsLine (first : Text → Option Text) (all : Text → Option (List Te
 abbrev pub IsWrongValue : (first : Text → Option Text) → WordsFault → Type 0
 IsWrongValue first (fault.Threads value) = (first (codes "threads") ≡ Some (string_bytes value)) × (number_between 1 max_threads (string_bytes value) ≡ None)
 IsWrongValue first (fault.Records value) = (first (codes "records") ≡ Some (string_bytes value)) × (number_between 0 (2 ^ 64 - 1) (string_bytes value) ≡ None)
+IsWrongValue first (fault.Bytes value) = (first (codes "bytes") ≡ Some (string_bytes value)) × (number_between 0 (2 ^ 64 - 1) (string_bytes value) ≡ None)
+IsWrongValue first (fault.Sha256 value) = (first (codes "sha256") ≡ Some (string_bytes value)) × (digest_in (string_bytes value) ≡ None)
 IsWrongValue first (fault.Part value) = (first (codes "part") ≡ Some (string_bytes value)) × (part_of (string_bytes value) ≡ None)
 IsWrongValue first fault.PartAndCollect = (is_collect (first (codes "collect")) ≡ true) × (is_some (first (codes "part")) ≡ true)
 IsWrongValue first fault.PartAndOutput = (is_some (first (codes "part")) ≡ true) × (is_some (first (codes "output")) ≡ true)

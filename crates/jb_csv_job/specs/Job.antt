@@ -1,6 +1,6 @@
 -- What a job over CSV is.
 use Rattle.std.specs.Prelude.{ℕ, List, ◌∷◌, map, string_bytes}
-use Rattle.jb_answers.specs.Classes.{is_retried, is_skipped, set_by}
+use Rattle.jb_ready.specs.FaultClasses.{is_retried, is_skipped, set_by}
 use Rattle.jb_rows.specs.declared.rows_options.RowsOptions.{RowsOptions}
 use Rattle.jb_slices.specs.Function.{Function}
 use Rattle.jb_slices.specs.Job.{Job, Limits}

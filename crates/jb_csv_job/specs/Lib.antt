@@ -4,6 +4,8 @@ pub mod CommandLine
 pub mod Done
 pub mod Failures
 pub mod Job
+pub mod Measuring
+pub mod Inputs
 pub mod SliceFiles
 pub mod Loop
 pub mod Matched
@@ -16,5 +18,6 @@ pub mod SliceTexts
 pub mod Slices
 pub mod Standing
 pub mod Statuses
+pub mod SystemFaults
 pub mod Tasks
 pub mod Watched

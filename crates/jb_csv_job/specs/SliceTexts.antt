@@ -4,6 +4,7 @@ use Rattle.std.specs.Prelude.{ℕ, ◌++◌, List, Option, Some, None, codes, de
 use Rattle.jb_csv_job.specs.Paths.{slice_path}
 use Rattle.jb_records.specs.declared.error.RecordsStepError.{RecordsStepError}
 use Rattle.jb_records.specs.declared.error.RecordsStepError.TheVariants as step
+use Rattle.sqlite.specs.declared.error.Error.TheVariants as sql
 use Rattle.jb_slice_file.specs.declared.error.StoreError.{StoreError}
 use Rattle.jb_slice_file.specs.declared.error.StoreError.TheVariants as store
 use Rattle.jb_slice_run.specs.declared.error.IdentityPart.{IdentityPart}
@@ -34,6 +35,7 @@ store_name store.TooLong = codes "TooLong"
 store_name store.Taken = codes "Taken"
 store_name store.TooMany = codes "TooMany"
 store_name store.Memory = codes "Memory"
+store_name (store.Sql (sql.Utf8Error at)) = codes "Damaged"
 store_name (store.Sql error) = codes "Sql"
 
 abbrev pub store_what : StoreError → List ℕ
@@ -43,7 +45,7 @@ store_what store.Gap = codes "a checkpoint is missing. Restore the file and its 
 store_what (store.Altered number) = codes "checkpoint " ++ (decimal number ++ codes " was changed. Restore the file and its log from a copy, or delete both: the slice then runs again.")
 store_what store.Damaged = codes "the file is no database, or a damaged one. Restore the file and its log from a copy, or delete both: the slice then runs again."
 store_what store.Busy = codes "another process has the file open. Type the same line again when it has ended."
-store_what store.CannotOpen = codes "the file can't be opened to be read and written. Check its rights, those of FOLDER and the room on the disk, and type the same line again."
+store_what store.CannotOpen = codes "the file can't be opened to be read and written. Look at the room on the disk, and type the same line again."
 store_what store.Full = codes "the disk is full. Make room, and type the same line again."
 store_what store.Disk = codes "the disk failed. Type the same line again, or restore the file and its log from a copy."
 store_what store.Shut = codes "the disk failed earlier, and the file was shut. Type the same line again."
@@ -51,9 +53,12 @@ store_what store.TooLong = codes "a checkpoint is longer than a row may be. Ask 
 store_what store.Taken = codes "another process wrote the same checkpoint. Type the same line again."
 store_what store.TooMany = codes "there are 4,294,967,295 checkpoints. Delete the file and its log: the slice then runs again."
 store_what store.Memory = codes "out of memory. Type the same line again when there is more, or with fewer threads."
+store_what (store.Sql (sql.Utf8Error at)) = codes "a checkpoint can't be read. Restore the file and its log from a copy, or delete both: the slice then runs again."
 store_what (store.Sql error) = codes "SQLite refused a statement."
 
+-- a text that isn't UTF-8 is that of a checkpoint, since no other one is read
 abbrev pub store_text : (folder : List ℕ) → (number : ℕ) → StoreError → Option (List ℕ)
+store_text folder number (store.Sql (sql.Utf8Error at)) = Some (at_slice (codes "Damaged") folder number (store_what (store.Sql (sql.Utf8Error at))))
 store_text folder number (store.Sql error) = None
 store_text folder number error = Some (at_slice (store_name error) folder number (store_what error))
 

@@ -1,6 +1,6 @@
 //! What the command line of a job asks for.
 
-ghost use Rattle.std.specs.Prelude.{◌≡◌, ◌≤◌, ℕ, Some, IfErr, OnOk};
+ghost use Rattle.std.specs.Prelude.{◌≡◌, ◌⊎◌, ◌≤◌, ℕ, None, Some, IfErr, OnOk};
 ghost use Rattle.jb_base.specs.Limits.{max_threads};
 ghost use Rattle.jb_csv_job.specs.Asking.{AreAsMany, IsInParts};
 
@@ -27,8 +27,12 @@ pub struct Asked {
     /// The stamps of `--keep-stamp`, in their order.
     pub stamps: Vec<String>,
     pub task: Task,
-    /// How many records the input must have.
+    /// How many records the input must have: at least one, if that isn't said.
     pub records: Option<u64>,
+    /// How many bytes the input must have.
+    pub bytes: Option<u64>,
+    /// The SHA-256 digest that the input must have.
+    pub sha256: Option<[u8; 32]>,
     /// The path of the file that gets the results. A part has none.
     pub output: Option<String>,
     /// The path of the file that gets the records that were skipped, and those by which partitions failed.
@@ -62,19 +66,23 @@ pub enum Request {
 
 impl Asked {
     ghost use Rattle.jb_csv_job.specs.Causes.{IsRunError};
-    ghost use Rattle.jb_csv_job.specs.declared.failure.CsvJobError.TheVariants.{Records};
+    ghost use Rattle.jb_csv_job.specs.declared.failure.CsvJobError.TheVariants.{NoRecords, Records};
 
-    /// Refuses another number of records than `--records` says, once so many are read, up to the end of the input or not.
+    /// Refuses another number of records than `--records` says, once so many are read, up to the end of the input or not. Without `--records` an
+    /// input without any is refused.
     ///
     /// # Errors
-    /// `Records`.
+    /// `Records` and `NoRecords`.
     pub fn refuse_other_number(&self, read: u64, is_end: bool) -> Result<(), CsvJobError>
         ensures same { OnOk result (AreAsMany self.now.records read is_end) }
         ensures other { IfErr result (λ _. AreAsMany self.now.records read is_end → ⊥) }
-        ensures named { IfErr result (λ e. (most : ℕ) × (self.now.records ≡ Some most) × (e ≡ Records most read is_end)) }
+        ensures named { IfErr result (λ e. ((most : ℕ) × (self.now.records ≡ Some most) × (e ≡ Records most read is_end)) ⊎ ((self.now.records ≡ None) × (e ≡ NoRecords))) }
         ensures cause { IfErr result (IsRunError self.now) }
     {
         let Some(asked) = self.records else {
+            if is_end && read == 0 {
+                return Err(CsvJobError::NoRecords);
+            }
             return Ok(());
         };
         if read > asked || is_end && read < asked {

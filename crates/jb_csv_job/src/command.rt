@@ -13,7 +13,7 @@ const STATUSES: &str = "Exit status:
   0  COMPLETED: the results of all records are written
   1  FAILED: correct the cause, and type the same line again
   2  stopped, by the file FOLDER/stop: remove it, and type the same line again
-  3  refused: another job, other records or a changed file; the same line won't help
+  3  refused: another job, other records, another input, a changed file or no permission; the same line won't help
   4  no memory, no thread, no room, a busy file or a failed stream: type the same line again later
   5  the words are wrong, or a stream is closed";
 
@@ -129,7 +129,7 @@ pub(crate) fn command<'a>(
         command,
         "threads",
         "N",
-        "How many threads run, 1 to 64 [default: the processors, at most 64]",
+        "How many threads run, 1 to 64 [default: 1]",
     )?;
     let command = with_option(
         alloc,
@@ -166,6 +166,20 @@ pub(crate) fn command<'a>(
         "records",
         "N",
         "Refuse an input with another number of records: at its end at the latest, before the last slice is run",
+    )?;
+    let command = with_option(
+        alloc,
+        command,
+        "bytes",
+        "N",
+        "Refuse an input with another number of bytes, before the last slice is run",
+    )?;
+    let command = with_option(
+        alloc,
+        command,
+        "sha256",
+        "DIGEST",
+        "Refuse an input with another SHA-256 digest, 64 hexadecimal digits, before the last slice is run",
     )?;
     let command = with_own(alloc, command, own)?;
     with_folder(alloc, command)

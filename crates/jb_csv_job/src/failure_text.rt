@@ -30,6 +30,14 @@ impl<'a, 'c> fmt::Display for WordsText<'a, 'c> {
                 f,
                 "Words: --records {value}: type a number below 18,446,744,073,709,551,616."
             ),
+            WordsFault::Bytes(value) => write!(
+                f,
+                "Words: --bytes {value}: type a number below 18,446,744,073,709,551,616."
+            ),
+            WordsFault::Sha256(value) => write!(
+                f,
+                "Words: --sha256 {value}: type 64 hexadecimal digits, as sha256sum prints them."
+            ),
             WordsFault::Part(value) => write!(
                 f,
                 "Words: --part {value}: type K/N, where K is one of the numbers 0 to N - 1, as 0/4."
@@ -85,6 +93,14 @@ impl<'b, 'c> fmt::Display for FolderText<'b, 'c> {
                 f,
                 "NoFolder: the folder {folder} can't be made: {error}. Mend this, or name another FOLDER."
             ),
+            FolderFault::NotAllowed(error) => write!(
+                f,
+                "NotAllowed: the folder {folder} can't be made: {error}. Give leave to make it, or name another FOLDER."
+            ),
+            FolderFault::NotSynced(error) => write!(
+                f,
+                "NotSynced: the name of the folder {folder} can't be synced: {error}. Nothing was run. Mend this, or name another FOLDER."
+            ),
         }
     }
 }
@@ -115,6 +131,14 @@ impl<'a> fmt::Display for OutputText<'a> {
             OutputFault::Changed => write!(
                 f,
                 "Changed: {path}.part was changed by another process. Type the same line again when it has ended."
+            ),
+            OutputFault::NotAllowed(error) => write!(
+                f,
+                "NotAllowed: {path} can't be written: {error}. Give leave to write it, or name another PATH."
+            ),
+            OutputFault::CannotSync(error) => write!(
+                f,
+                "NotSynced: the folder of {path} can't be synced: {error}. Nothing was run. Mend this, or name another PATH."
             ),
             OutputFault::NotSynced(error) => write!(
                 f,
@@ -222,6 +246,14 @@ impl<'a, 'b, 'c> fmt::Display for CsvJobErrorText<'a, 'b, 'c> {
                     slice: *slice
                 }
             ),
+            CsvJobError::NotAllowed { slice, error } => write!(
+                f,
+                "NotAllowed: slice {slice}, {}: the file can't be opened to be read, written and locked: {error}. Give leave to use it, its log and FOLDER, or name another FOLDER.",
+                SlicePath {
+                    folder,
+                    slice: *slice
+                }
+            ),
             CsvJobError::File { slice, error } => write!(
                 f,
                 "{}",
@@ -266,6 +298,21 @@ impl<'a, 'b, 'c> fmt::Display for CsvJobErrorText<'a, 'b, 'c> {
                     read: *read,
                     is_end: *is_end
                 }
+            ),
+            CsvJobError::NoRecords => write!(
+                f,
+                "NoRecords: the input has no {records}. Type the same line with the right input, or with --records 0."
+            ),
+            CsvJobError::OtherLength { asked, read } => write!(
+                f,
+                "OtherLength: the input has {read} bytes, and --bytes says {asked}. The last slice isn't run. Type the same line with the right input."
+            ),
+            CsvJobError::OtherDigest { asked, read } => write!(
+                f,
+                "OtherDigest: the SHA-256 digest of the input is {read}, and --sha256 says {asked}. The last slice isn't run. Type the same line with the right input."
+            ),
+            CsvJobError::NoLineEnd => f.write_str(
+                "NoLineEnd: the last line of the input has no line end, so it may be cut. The last slice isn't run. Type the same line with the whole input. If it is whole, add --bytes or --sha256.",
             ),
             CsvJobError::Rows(error) => write!(f, "{}", RowsText(error)),
             CsvJobError::Output { path, why } => write!(

@@ -1,7 +1,7 @@
 //! The history of a folder's runs.
 
-use jb_answers::FaultClass;
 use jb_files::{FileFault, open_to_append};
+use jb_ready::FaultClass;
 use jb_slice_run::Fault;
 use std::alloc::{AllocError, Global};
 use std::fmt;

@@ -5,7 +5,7 @@ ghost use Rattle.std.specs.Option.{ForSome};
 ghost use Rattle.jb_base.specs.Limits.{max_classes, max_item_count, max_partitions_asked, max_records, max_retry_limit, max_skip_limit};
 ghost use Rattle.jb_base.specs.Name.{IsName};
 
-use jb_answers::FaultClass;
+use jb_ready::FaultClass;
 use jb_rows::RowsOptions;
 
 /// How many records a slice has, if the job has no reason for another number.

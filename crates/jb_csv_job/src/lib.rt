@@ -3,6 +3,7 @@
 //!
 //! - `job`: what a job is. `job_main`: all of a `main`. `run`: a job over two streams; `next`: one slice after the other.
 //! - `words`, `command`, `line`, `values`, `asked`: the command line, and what it asks. `opening`: FOLDER is made.
+//! - `measured`, `same_input`: the input's length and digest, and whether they are those that are asked for.
 //! - `reading`: the records of a slice. `work`, `one_slice`: a slice over its file; `folder`, `path`: its path. `kinds`: files of another kind.
 //! - `giving`, `sink`, `output`: results to their taker. `tally`: what is counted from slice to slice.
 //! - `stored`, `keeper`: what files hold before and after, as contracts see it.
@@ -27,6 +28,7 @@ mod keeper;
 mod kinds;
 mod laws;
 mod line;
+mod measured;
 mod meter;
 mod next;
 mod one_slice;
@@ -38,6 +40,7 @@ mod reading;
 mod reason;
 mod report;
 mod run;
+mod same_input;
 mod sink;
 mod skipped;
 mod slice_text;
@@ -54,11 +57,12 @@ pub use failure::{CsvJobError, FolderFault, OutputFault, WordsFault};
 pub use failure_text::CsvJobErrorText;
 pub use folder::slice_path;
 pub use host::Host;
-pub use jb_answers::{Fate, FaultClass};
+pub use jb_ready::{Fate, FaultClass};
 pub use job::{CsvJob, DEFAULT_SLICE_LENGTH};
 pub use job_main::run_job;
 pub use keeper::{Keeper, Watches};
 pub use laws::crashes_are_resumed;
+pub use measured::{Measure, Measured, Measures};
 pub use opening::ready_folder;
 pub use output::Output;
 pub use path::SlicePath;

@@ -3,13 +3,13 @@
 ghost use Rattle.std.specs.Prelude.{◌≡◌, ◌≤◌, ◌-◌, ◌^◌, [], None, Some, codes, map, option_map, option_and_then, string_bytes, unwrap_or, IfErr, IfOk, IfSome, true};
 ghost use Rattle.clap.specs.Words.{first_value, found_of};
 ghost use Rattle.jb_base.specs.Limits.{max_threads};
-ghost use Rattle.jb_csv_job.specs.Asking.{IsInParts, number_between, task_in};
+ghost use Rattle.jb_csv_job.specs.Asking.{IsInParts, digest_in, number_between, task_in};
 ghost use Rattle.jb_csv_job.specs.CommandLine.{IsLine, IsWrong, is_collect};
 ghost use Rattle.jb_csv_job.specs.Matched.{all_in, first_in};
 
 use crate::asked::{Asked, Task};
 use crate::failure::{CsvJobError, WordsFault};
-use crate::values::{number_between, task_in};
+use crate::values::{digest_in, number_between, task_in};
 use clap::ArgMatches;
 use jb_base::MAX_THREADS;
 use std::alloc::Global;
@@ -43,6 +43,34 @@ fn records_in(alloc: Global, matches: &ArgMatches<'_>) -> Result<Option<u64>, Cs
     match number_between(0, u64::MAX, text) {
         Some(records) => Ok(Some(records)),
         None => Err(CsvJobError::Words(WordsFault::Records(text.to_string(alloc)?))),
+    }
+}
+
+/// The number of bytes that `--bytes` says, if it is there.
+fn bytes_in(alloc: Global, matches: &ArgMatches<'_>) -> Result<Option<u64>, CsvJobError>
+    ensures said { IfOk result (λ n. n ≡ option_and_then (number_between 0 (2 ^ 64 - 1)) (first_in matches.now (codes "bytes"))) }
+    ensures wrong { IfErr result (IsWrong (first_in matches.now)) }
+{
+    let Some(text) = matches.get_str("bytes") else {
+        return Ok(None);
+    };
+    match number_between(0, u64::MAX, text) {
+        Some(bytes) => Ok(Some(bytes)),
+        None => Err(CsvJobError::Words(WordsFault::Bytes(text.to_string(alloc)?))),
+    }
+}
+
+/// The digest that `--sha256` says, if it is there.
+fn sha256_in(alloc: Global, matches: &ArgMatches<'_>) -> Result<Option<[u8; 32]>, CsvJobError>
+    ensures said { IfOk result (λ digest. digest ≡ option_and_then digest_in (first_in matches.now (codes "sha256"))) }
+    ensures wrong { IfErr result (IsWrong (first_in matches.now)) }
+{
+    let Some(text) = matches.get_str("sha256") else {
+        return Ok(None);
+    };
+    match digest_in(text) {
+        Some(digest) => Ok(Some(digest)),
+        None => Err(CsvJobError::Words(WordsFault::Sha256(text.to_string(alloc)?))),
     }
 }
 
@@ -112,6 +140,8 @@ pub(crate) fn asked_in(
 {
     let threads = threads_in(alloc, matches, default)?;
     let records = records_in(alloc, matches)?;
+    let bytes = bytes_in(alloc, matches)?;
+    let sha256 = sha256_in(alloc, matches)?;
     let task = task_of(alloc, matches)?;
     let output = own_text(alloc, matches.get_str("output"))?;
     if matches!(task, Task::Part { .. }) && output.is_some() {
@@ -133,6 +163,8 @@ pub(crate) fn asked_in(
         stamps,
         task,
         records,
+        bytes,
+        sha256,
         output,
         skipped,
         own,

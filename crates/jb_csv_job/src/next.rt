@@ -20,9 +20,10 @@ use crate::failure::CsvJobError;
 use crate::giving::{give, is_own};
 use crate::host::Host;
 use crate::keeper::Keeper;
+use crate::measured::Measures;
 use crate::one_slice::kept_slice;
 use crate::reading::read_slice;
-use crate::report::Reporter;
+use crate::report::{Reporter, report_open_end};
 use crate::sink::Sink;
 use crate::skipped::list_slice;
 use crate::stored::Stored;
@@ -174,7 +175,7 @@ pub(crate) fn next_slice<
     T: Threads + Wait + Clock + Eprint + Host + Copy + Send + Sync + 'static,
     H: Stored,
     K: Keeper,
-    R: Read + Drop,
+    R: Read + Measures + Drop,
     N: Sink,
     L: Sink,
 >(
@@ -206,7 +207,10 @@ pub(crate) fn next_slice<
         → LeavesJob (job_of work.now (F.answer (arc_value function.now))) functions (Some text) (K.may_leave keeper.old) (K.may_leave keeper.new)) }
     ensures crash { IsTrue (K.are_clean keeper.new) → LeavesAny (job_of work.now (F.answer (arc_value function.now))) H.log H.db (K.may_leave keeper.old) (K.may_leave keeper.new) }
 {
-    let is_last = read_slice(work, reader, rows, &mut tally.records)?;
+    let is_last = read_slice(rt.host().alloc(), work, reader, rows, &mut tally.records)?;
+    if is_last {
+        report_open_end(rt, reader.ends_open());
+    }
     if !is_own(work.asked.task, number) {
         return Ok(is_more(is_last, true));
     }

@@ -30,6 +30,7 @@ use crate::keeper::Keeper;
 use crate::kinds::{is_no_file, other_kind};
 use crate::meter::Meter;
 use crate::progress::StderrProgress;
+use crate::reason::file_failure;
 use crate::stopping::is_stopped;
 use crate::stored::{Before, OneStored, Stored};
 use crate::work::Work;
@@ -201,10 +202,7 @@ fn opened<S: Start>(
     }
     match connect(host, path.as_str(), start) {
         Ok(conn) => Ok(conn),
-        Err(error) => Err(CsvJobError::File {
-            slice: number,
-            error,
-        }),
+        Err(error) => Err(file_failure(host, path.as_str(), number, error)),
     }
 }
 

@@ -4,24 +4,8 @@ use crate::asked::Asked;
 use crate::failure::{CsvJobError, FolderFault, WordsFault};
 use crate::history::{Event, is_no_history, note};
 use crate::work::texts_of;
-use jb_files::{SameFile, find_same_file};
+use jb_files::{SameFile, find_same_file, make_folder};
 use std::alloc::Global;
-use std::fs;
-use std::io::ErrorKind;
-
-/// Makes FOLDER, if it isn't there; and whether it was made.
-fn make_folder(host: &HostRuntime, folder: &str) -> Result<bool, FolderFault> {
-    match fs::metadata(host, folder) {
-        Ok(found) if found.is_dir() => return Ok(false),
-        Ok(_) => return Err(FolderFault::NotAFolder),
-        Err(error) if error.kind() == ErrorKind::NotFound => {}
-        Err(error) => return Err(FolderFault::CannotMake(error)),
-    }
-    match fs::create_dir_all(host, folder) {
-        Ok(()) => Ok(true),
-        Err(error) => Err(FolderFault::CannotMake(error)),
-    }
-}
 
 /// Adds PATH and PATH.part, if there is a path.
 fn add_path(alloc: Global, paths: &mut Vec<String>, path: Option<&str>) -> Result<(), CsvJobError> {
@@ -47,10 +31,10 @@ fn refuse_same_file(host: &HostRuntime, asked: &Asked) -> Result<(), CsvJobError
     }
 }
 
-/// Makes FOLDER, if it isn't there. Its history says that a run begins. No two files of the job are one.
+/// Makes FOLDER, if it isn't there, and syncs its name. Its history says that a run begins. No two files of the job are one.
 ///
 /// # Errors
-/// - `Folder`: something else has that name or that of its history, or the folder can't be made or looked at.
+/// - `Folder`: something else has that name or that of its history, or the folder can't be made or looked at, or its name can't be synced.
 /// - `Words`: PATH, PATH.part, a file of FOLDER and the input are not all different files. `Memory`.
 pub fn ready_folder(host: &HostRuntime, asked: &Asked) -> Result<(), CsvJobError> {
     refuse_same_file(host, asked)?;
@@ -59,7 +43,7 @@ pub fn ready_folder(host: &HostRuntime, asked: &Asked) -> Result<(), CsvJobError
         Ok(false) => {}
         // Only now it is known which paths lead into it.
         Ok(true) => refuse_same_file(host, asked)?,
-        Err(fault) => return Err(CsvJobError::Folder(fault)),
+        Err(fault) => return Err(CsvJobError::Folder(FolderFault::from(fault))),
     }
     if is_no_history(host, folder) {
         return Err(CsvJobError::Folder(FolderFault::History));

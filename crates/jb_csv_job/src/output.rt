@@ -1,20 +1,23 @@
 //! Where the results are written, and the list of skipped records.
 
 ghost use Rattle.std.specs.Prelude.{◌≡◌};
-ghost use Rattle.jb_csv_job.specs.declared.failure.OutputFault.TheVariants.{CannotWrite};
+ghost use Rattle.jb_csv_job.specs.SystemFaults.{output_fault};
 
 use crate::failure::{CsvJobError, OutputFault};
-use jb_files::{FileFault, is_named, is_other, open_to_append};
+use jb_files::{FileFault, is_named, is_other, lasts, open_to_append, synced_folder};
 use std::fs::{File, TryLockError};
 use std::io::{ErrorKind, Stdout, Write};
-use std::path::Path;
 use std::{fs, io};
 
 impl From<io::Error> for OutputFault {
-    ghost from_gives = { λ error fault. fault ≡ CannotWrite error };
+    ghost from_gives = { λ error fault. fault ≡ output_fault error };
 
     fn from(error: io::Error) -> OutputFault {
-        OutputFault::CannotWrite(error)
+        if lasts(&error) {
+            OutputFault::NotAllowed(error)
+        } else {
+            OutputFault::CannotWrite(error)
+        }
     }
 }
 
@@ -22,6 +25,8 @@ impl From<io::Error> for OutputFault {
 #[derive(Drop)]
 struct PartFile {
     file: File,
+    /// The folder of both names.
+    folder: File,
     /// The name that it gets, and the one that it has: PATH and PATH.part.
     path: String,
     part: String,
@@ -49,12 +54,12 @@ fn opened(host: &HostRuntime, part: &str) -> Result<File, OutputFault> {
         Ok(file) => file,
         Err(FileFault::NotAFile) => return Err(OutputFault::NotAFile),
         Err(FileFault::Changing) => return Err(OutputFault::Busy),
-        Err(FileFault::System(error)) => return Err(OutputFault::CannotWrite(error)),
+        Err(FileFault::System(error)) => return Err(OutputFault::from(error)),
     };
     match file.try_lock() {
         Ok(()) => {}
         Err(TryLockError::WouldBlock) => return Err(OutputFault::Busy),
-        Err(TryLockError::Error(error)) => return Err(OutputFault::CannotWrite(error)),
+        Err(TryLockError::Error(error)) => return Err(OutputFault::from(error)),
     }
     // Another process may have renamed it before it was locked.
     if !is_named(host, part, &file)? {
@@ -64,18 +69,15 @@ fn opened(host: &HostRuntime, part: &str) -> Result<File, OutputFault> {
     Ok(file)
 }
 
-/// Syncs the folder of a path, where the system can. So the new name of a file in it stays.
-fn sync_folder(host: &HostRuntime, path: &str) -> io::Result<()> {
-    let folder = match Path::new(path).parent() {
-        Some(folder) if !folder.as_str().is_empty() => folder,
-        _ => Path::new("."),
-    };
-    let Ok(folder) = File::open(host, folder) else {
-        return Ok(());
-    };
-    match folder.sync_all() {
-        Err(error) if error.kind() == ErrorKind::InvalidInput => Ok(()),
-        synced => synced,
+/// The folder of PATH, open and synced. What can't be synced now couldn't be synced after the rename either.
+fn folder_at(host: &HostRuntime, path: &str) -> Result<File, OutputFault> {
+    if is_other(host, path) {
+        return Err(OutputFault::NotAFile);
+    }
+    match synced_folder(host, path) {
+        Ok(folder) => Ok(folder),
+        Err(error) if error.kind() == ErrorKind::NotFound => Err(OutputFault::CannotWrite(error)),
+        Err(error) => Err(OutputFault::CannotSync(error)),
     }
 }
 
@@ -84,13 +86,14 @@ impl PartFile {
         let alloc = host.alloc();
         let part = format!(in alloc; "{path}.part")?;
         let path = path.to_string(alloc)?;
-        if is_other(host, path.as_str()) {
-            let why = OutputFault::NotAFile;
-            return Err(CsvJobError::Output { path, why });
-        }
+        let folder = match folder_at(host, path.as_str()) {
+            Ok(folder) => folder,
+            Err(why) => return Err(CsvJobError::Output { path, why }),
+        };
         match opened(host, part.as_str()) {
             Ok(file) => Ok(PartFile {
                 file,
+                folder,
                 path,
                 part,
                 length: 0,
@@ -109,14 +112,14 @@ impl PartFile {
         Ok(is_long && is_named(host, self.part.as_str(), &self.file)?)
     }
 
-    /// Syncs it, and renames it to PATH.
+    /// Syncs it, renames it to PATH, and syncs the folder.
     fn put_in_place(&self, host: &HostRuntime) -> Result<(), OutputFault> {
         self.file.sync_all()?;
         if !self.is_whole(host)? {
             return Err(OutputFault::Changed);
         }
         fs::rename(host, self.part.as_str(), self.path.as_str())?;
-        match sync_folder(host, self.path.as_str()) {
+        match self.folder.sync_all() {
             Ok(()) => Ok(()),
             Err(error) => Err(OutputFault::NotSynced(error)),
         }
@@ -124,10 +127,10 @@ impl PartFile {
 }
 
 impl Output {
-    /// Standard output, or PATH.part, which is made, and emptied if it is there.
+    /// Standard output, or PATH.part, which is made, and emptied if it is there. The folder is synced before.
     ///
     /// # Errors
-    /// `Output`: PATH or PATH.part is no regular file; another process writes it so; or it can't be written. `Memory`.
+    /// `Output`: PATH or PATH.part is no regular file; another process writes it so; it can't be written; or its folder can't be synced. `Memory`.
     pub fn open(host: &HostRuntime, path: Option<&str>) -> Result<Output, CsvJobError> {
         let to = match path {
             None => Target::Standard(host.stdout()),

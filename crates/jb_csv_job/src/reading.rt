@@ -9,9 +9,12 @@ ghost use Rattle.jb_csv_job.specs.declared.failure.CsvJobError.TheVariants.{TooM
 ghost use Rattle.jb_csv_job.specs.Loop.{IsSliceRead, StandsBefore, job_of};
 
 use crate::failure::CsvJobError;
+use crate::measured::Measures;
+use crate::same_input::refuse_other_input;
 use crate::work::Work;
 use jb_rows::{Rows, RowsReader};
 use jb_slices::is_last_slice;
+use std::alloc::Global;
 use std::io::Read;
 
 /// So many records, and so many more.
@@ -25,8 +28,10 @@ fn sum_of(records: u64, more: u64) -> Result<u64, CsvJobError>
 }
 
 /// Reads the records of the next slice, in place of those in `rows`, and counts them. Says whether it is the last one. Another number of records than
-/// `--records` has is refused.
-pub(crate) fn read_slice<R: Read>(
+/// `--records` has is refused, and none at all without it; and at the end of the input one of another length or digest, or whose last line may be
+/// cut.
+pub(crate) fn read_slice<R: Read + Measures>(
+    alloc: Global,
     work: &Work,
     reader: &mut RowsReader<R>,
     rows: &mut Rows,
@@ -44,5 +49,6 @@ pub(crate) fn read_slice<R: Read>(
     *so_far = all;
     let is_last = is_last_slice(count, most);
     work.asked.refuse_other_number(all, is_last)?;
+    refuse_other_input(alloc, work.asked, &*reader)?;
     Ok(is_last)
 }

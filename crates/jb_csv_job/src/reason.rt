@@ -1,26 +1,30 @@
 //! Why the system doesn't open a slice's file.
 
+ghost use Rattle.jb_csv_job.specs.SystemFaults.{IsFileFailure};
+
+use crate::failure::CsvJobError;
 use crate::host::Host;
 use crate::path::SlicePath;
-use std::fs::File;
-use std::io::ErrorKind;
-use std::{fs, io};
+use jb_files::{lasts, open_again};
+use jb_slice_file::StoreError;
 
-/// Why there can be no file at this path, if the system says so. One that is made is removed again.
-fn making_fails(host: &HostRuntime, path: &str) -> Option<io::Error> {
-    match File::create_new(host, path) {
-        Ok(_made) => fs::remove_file(host, path).err(),
-        Err(error) => Some(error),
+/// Why there is no answer if a slice's file isn't opened. If it can't be, the system is asked again: what it says may last.
+pub(crate) fn file_failure(
+    host: &HostRuntime,
+    path: &str,
+    slice: u64,
+    error: StoreError,
+) -> CsvJobError
+    ensures { IsFileFailure slice error result }
+{
+    if let StoreError::CannotOpen = error {
+        if let Err(why) = open_again(host, path) {
+            if lasts(&why) {
+                return CsvJobError::NotAllowed { slice, error: why };
+            }
+        }
     }
-}
-
-/// Why the file at this path isn't opened to be read and written, or isn't made, if the system says so.
-fn opening_fails(host: &HostRuntime, path: &str) -> Option<io::Error> {
-    match File::options().read(true).write(true).open(host, path) {
-        Ok(_opened) => None,
-        Err(error) if error.kind() == ErrorKind::NotFound => making_fails(host, path),
-        Err(error) => Some(error),
-    }
+    CsvJobError::File { slice, error }
 }
 
 /// Reports on standard error why the system doesn't open a slice's file, if it says so.
@@ -29,7 +33,7 @@ pub(crate) fn report_reason<T: Eprint + Host>(rt: &T, folder: &str, slice: u64) 
     let Ok(path) = SlicePath { folder, slice }.to_string(host.alloc()) else {
         return;
     };
-    if let Some(error) = opening_fails(host, path.as_str()) {
+    if let Err(error) = open_again(host, path.as_str()) {
         let _told = eprintln!(rt; "{path}: {error}");
     }
 }

@@ -8,7 +8,7 @@ use crate::host::Host;
 use crate::job::CsvJob;
 use crate::meter::Meter;
 use crate::progress::clear_line;
-use jb_answers::{FaultClass, name_of};
+use jb_ready::{FaultClass, name_of};
 use jb_slice_run::{Fault, PartitionFailure, SliceEnd};
 use std::fmt;
 use std::time::Clock;
@@ -177,6 +177,16 @@ impl Reporter {
             };
             let _reported = eprintln!(rt; "{text}");
         }
+    }
+}
+
+/// Reports that the last line of the input has no line end, if it has none.
+pub(crate) fn report_open_end<T: Eprint + Host>(rt: &T, ends_open: bool) {
+    if ends_open {
+        clear_line(rt);
+        let _reported = eprintln!(rt;
+            "the last line of the input has no line end; --bytes and --sha256 refuse an input that was cut"
+        );
     }
 }
 

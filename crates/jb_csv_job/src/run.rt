@@ -18,6 +18,7 @@ use crate::failure::CsvJobError;
 use crate::host::Host;
 use crate::job::CsvJob;
 use crate::keeper::Keeper;
+use crate::measured::{Measured, Measures};
 use crate::next::next_slice;
 use crate::report::Reporter;
 use crate::sink::{CsvSink, Sink};
@@ -53,7 +54,7 @@ fn all_slices<
     T: Threads + Wait + Clock + Eprint + Host + Copy + Send + Sync + 'static,
     H: Stored,
     K: Keeper,
-    R: Read + Drop,
+    R: Read + Measures + Drop,
     N: Sink,
     L: Sink,
 >(
@@ -118,14 +119,14 @@ fn all_slices<
 ///
 /// # Errors
 /// - `File` and `Slice`, of a slice's file and of its run. `NotWhole`, where a slice is to be collected.
-/// - `Rows`, of the records. `Records`: there are others in number than asked.
+/// - `Rows`, of the records. `Records`, `NoRecords`, `OtherLength`, `OtherDigest`, `NoLineEnd`: the input isn't the one that is asked for.
 /// - `TooMany`, `Memory`, and those of the sink and of the list.
 pub fn run_slices<
     F: RowFunction + Drop + 'static,
     T: Threads + Wait + Clock + Eprint + Host + Copy + Send + Sync + 'static,
     H: Stored,
     K: Keeper,
-    R: Read + Drop,
+    R: Read + Measures + Drop,
     N: Sink,
     L: Sink,
 >(
@@ -262,11 +263,11 @@ pub fn run_csv_job<
     ensures crash { IsTrue (K.are_clean keeper.new) → LeavesAny (job_record job.now asked.now (F.answer function)) H.log H.db (K.may_leave keeper.old) (K.may_leave keeper.new) }
 {
     let alloc = rt.host().alloc();
-    let mut reader = RowsReader::new(alloc, &job.options, from)?;
+    let mut reader = RowsReader::new(alloc, &job.options, asked.measured(from))?;
     let mut sink = CsvSink::new(alloc, &job.options, to);
     sink.write_header(asked.task, &job.options, &reader)?;
     let mut listing = begin_list(alloc, job, asked, &reader, list)?;
-    let end = run_slices::<F, T, H, K, R, CsvSink<W>, CsvSink<S>>(
+    let end = run_slices::<F, T, H, K, Measured<R>, CsvSink<W>, CsvSink<S>>(
         rt,
         job,
         asked,

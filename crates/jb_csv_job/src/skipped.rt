@@ -3,7 +3,7 @@
 ghost use Rattle.std.specs.Prelude.{◌≡◌, ◌++◌, ◌*◌, ◌∷◌, ◌⊎◌, ℕ, [], codes, decimal, map, IfErr, IfOk, List, OnOk};
 ghost use Rattle.std.specs.Io.KnownBytes.{Appends, Keeps};
 ghost use Rattle.std.specs.List.Sorted.{IsNonDecreasingBy, IsPermutation};
-ghost use Rattle.jb_answers.specs.Classes.{class_name};
+ghost use Rattle.jb_ready.specs.FaultClasses.{class_name};
 ghost use Rattle.jb_collect.specs.declared.calls.Status.TheVariants.{Completed};
 ghost use Rattle.jb_rows.specs.Fields.{fields_in};
 ghost use Rattle.jb_rows.specs.Streams.{csv_rows, kept_header};
@@ -21,9 +21,9 @@ use crate::job::CsvJob;
 use crate::output::Output;
 use crate::report::line_at;
 use crate::sink::{CsvSink, Sink};
-use jb_answers::{FaultClass, name_of};
 use jb_base::PackedList;
 use jb_collect::Status;
+use jb_ready::{FaultClass, name_of};
 use jb_rows::{Header, RowBuilder, Rows, RowsError, RowsReader};
 use jb_slice_run::{Fault, PartitionFailure, SliceEnd};
 use std::alloc::{AllocError, Global};
@@ -169,7 +169,7 @@ fn list_failure(alloc: Global, asked: &Asked, error: CsvJobError) -> CsvJobError
     {
         Ok(path) => CsvJobError::Output {
             path,
-            why: OutputFault::CannotWrite(error),
+            why: OutputFault::from(error),
         },
         Err(error) => CsvJobError::from(error),
     }
@@ -269,7 +269,7 @@ pub fn end_list<S: Write + Drop>(
 /// The file of `--skipped`, if it is asked for: PATH.part, which is made.
 ///
 /// # Errors
-/// `Output`: PATH is no regular file; another process writes it so; or it can't be written. `Memory`.
+/// `Output`: PATH is no regular file; another process writes it so; it can't be written; or its folder can't be synced. `Memory`.
 pub fn open_list(host: &HostRuntime, asked: &Asked) -> Result<Option<Output>, CsvJobError> {
     match &asked.skipped {
         Some(path) => Ok(Some(Output::open(host, Some(path.as_str()))?)),

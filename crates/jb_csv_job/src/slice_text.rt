@@ -8,6 +8,7 @@ use jb_records::RecordsStepError;
 use jb_slice_file::StoreError;
 use jb_slice_run::{IdentityPart, SliceError};
 use jb_step::StepError;
+use sqlite::Error as SqlError;
 use std::fmt;
 
 const NO_MEMORY: &str =
@@ -30,6 +31,7 @@ fn store_name(error: &StoreError) -> &'static str
         StoreError::Taken => "Taken",
         StoreError::TooMany => "TooMany",
         StoreError::Memory => "Memory",
+        StoreError::Sql(SqlError::Utf8Error(_)) => "Damaged",
         StoreError::Sql(_) => "Sql",
     }
 }
@@ -61,7 +63,7 @@ impl<'a> fmt::Display for StoreWhat<'a> {
             StoreError::Busy =>
                 "another process has the file open. Type the same line again when it has ended.",
             StoreError::CannotOpen =>
-                "the file can't be opened to be read and written. Check its rights, those of FOLDER and the room on the disk, and type the same line again.",
+                "the file can't be opened to be read and written. Look at the room on the disk, and type the same line again.",
             StoreError::Full => "the disk is full. Make room, and type the same line again.",
             StoreError::Disk =>
                 "the disk failed. Type the same line again, or restore the file and its log from a copy.",
@@ -74,6 +76,9 @@ impl<'a> fmt::Display for StoreWhat<'a> {
             StoreError::TooMany =>
                 "there are 4,294,967,295 checkpoints. Delete the file and its log: the slice then runs again.",
             StoreError::Memory => NO_MEMORY,
+            // Only the text of a checkpoint is read as UTF-8.
+            StoreError::Sql(SqlError::Utf8Error(_)) =>
+                "a checkpoint can't be read. Restore the file and its log from a copy, or delete both: the slice then runs again.",
             StoreError::Sql(_) => "SQLite refused a statement.",
         })
     }
@@ -94,7 +99,7 @@ impl<'b, 'c> fmt::Display for StoreText<'b, 'c> {
     fn fmt<W: fmt::Write>(&self, f: &mut fmt::Formatter<W>) -> fmt::Result {
         let at = self.at;
         match self.error {
-            StoreError::Sql(error) => {
+            StoreError::Sql(error) if !matches!(error, SqlError::Utf8Error(_)) => {
                 write!(
                     f,
                     "Sql: slice {}, {at}: SQLite refused a statement: {error}",

@@ -1,9 +1,10 @@
 //! What the values of a command line's options say.
 
 ghost use Rattle.std.specs.Prelude.{◌≡◌, option_map, IfSome};
-ghost use Rattle.jb_csv_job.specs.Asking.{IsInParts, number_between, part_of, part_with, task_in};
+ghost use Rattle.jb_csv_job.specs.Asking.{IsInParts, digest_in, number_between, part_of, part_with, task_in};
 
 use crate::asked::Task;
+use hex::FromHex;
 use jb_rows::numbers::number_of;
 
 /// The number that decimal digits write, if it is one of these.
@@ -16,6 +17,13 @@ pub(crate) fn number_between(least: u64, most: u64, text: &str) -> Option<u64>
     } else {
         None
     }
+}
+
+/// The bytes that 64 hexadecimal digits write.
+pub(crate) fn digest_in(text: &str) -> Option<[u8; 32]>
+    ensures { result ≡ digest_in text.now }
+{
+    <[u8; 32] as FromHex>::from_hex(text).ok()
 }
 
 /// The part of these two numbers, if the first is below the second.

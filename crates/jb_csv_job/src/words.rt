@@ -13,16 +13,14 @@ use crate::job::CsvJob;
 use crate::line::asked_in;
 use crate::work::texts_of;
 use clap::error::ErrorKind;
-use jb_base::MAX_THREADS;
 use jb_files::{ClosedStreams, hold_closed_streams};
 use jb_rows::RowsError;
 use std::alloc::{AllocError, Global};
 use std::env::Args;
-use std::thread::Threads;
-use std::{env, io, thread};
+use std::{env, io};
 
-/// How many threads run if the processors can't be counted.
-const SOME_THREADS: u32 = 4;
+/// How many threads run, if `--threads` doesn't say. More of them take no less time for a function of a few microseconds.
+const DEFAULT_THREADS: u32 = 1;
 
 /// What the arguments ask for.
 #[derive(Drop)]
@@ -79,17 +77,6 @@ fn text_of(alloc: Global, fault: &clap::Error) -> Result<String, AllocError> {
     text.trim_end().to_string(alloc)
 }
 
-/// How many processors there are, at most 64; 4 if that isn't known.
-fn processors<T: Threads>(rt: &T) -> u32
-    ensures some { 1 ≤ result }
-    ensures few { result ≤ max_threads }
-{
-    match thread::available_parallelism(rt) {
-        Ok(count) => count.get().min(MAX_THREADS as usize) as u32,
-        Err(_) => SOME_THREADS,
-    }
-}
-
 /// The arguments after the program's name.
 fn words_of(alloc: Global, args: io::Result<Args>) -> Result<Vec<String>, CsvJobError> {
     match args {
@@ -130,11 +117,7 @@ fn own_option(own: &Option<OwnTexts>) -> Option<OwnOption<'_>> {
 }
 
 /// What the arguments of the process ask for, before the help or the version is printed.
-fn asked_by<T: Threads + Host>(
-    rt: &T,
-    job: &CsvJob,
-    own: Option<&OwnOption>,
-) -> Result<Parsed, CsvJobError> {
+fn asked_by<T: Host>(rt: &T, job: &CsvJob, own: Option<&OwnOption>) -> Result<Parsed, CsvJobError> {
     let host = rt.host();
     let alloc = host.alloc();
     let args = words_of(alloc, env::args(host))?;
@@ -153,7 +136,7 @@ fn asked_by<T: Threads + Host>(
         about: about.as_str(),
         usage: usage.as_str(),
     };
-    parse_words(alloc, &about, own_option(&own), processors(rt), &words)
+    parse_words(alloc, &about, own_option(&own), DEFAULT_THREADS, &words)
 }
 
 /// Whether results are written on standard output.
@@ -181,7 +164,7 @@ fn refuse_closed(closed: ClosedStreams, parsed: &Parsed) -> Result<(), CsvJobErr
 ///
 /// # Errors
 /// `Words`: they ask for nothing, or need a stream that is closed. `Rows` with `Stream`: standard output failed. `Memory`.
-pub fn asked_of<T: Threads + Host>(
+pub fn asked_of<T: Host>(
     rt: &T,
     job: &CsvJob,
     own: Option<&OwnOption>,

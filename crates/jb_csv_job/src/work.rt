@@ -5,8 +5,8 @@ ghost use Rattle.jb_csv_job.specs.Slices.{IsSliceJobOf};
 
 use crate::asked::Asked;
 use crate::job::CsvJob;
-use jb_answers::{FaultClass, sets_of};
 use jb_base::Name;
+use jb_ready::{Classes, FaultClass};
 use jb_slice_run::{SliceJob, SliceLimits};
 use std::alloc::{AllocError, Global};
 
@@ -65,16 +65,15 @@ pub(crate) fn work_of<'a, 'b>(
     ensures job { result.job.now ≡ job.now }
     ensures asked { result.asked.now ≡ asked.now }
 {
-    let (skippable, retryable) = sets_of(job.classes);
     let slice = SliceJob {
         name,
         slice_length: job.slice_length,
         partitions: job.partitions,
         item_count: job.item_count,
         classes,
-        skippable,
-        retryable,
-        no_rollback: 0,
+        skippable: Classes::skipped(job.classes).bits(),
+        retryable: Classes::retried(job.classes).bits(),
+        no_rollback: Classes::none().bits(),
         limits: SliceLimits {
             skips: job.skip_limit,
             job_skips: job.job_skip_limit,

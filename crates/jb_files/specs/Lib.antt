@@ -1,1 +1,2 @@
--- This crate has no definition: no contract can say what a file or a stream is.
+-- No contract can say what a file or a stream is. What can be said is of the errors.
+pub mod Lasting

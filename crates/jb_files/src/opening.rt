@@ -1,8 +1,10 @@
 //! A regular file, open to be written, without a wait.
 
+use crate::folders::folder_of;
 use crate::node::Node;
-use std::fs::{File, OpenOptions};
+use std::fs::{File, OpenOptions, TryLockError};
 use std::io::ErrorKind;
+use std::os::unix::fs::MetadataExt;
 use std::{fs, io};
 
 /// Why a file isn't opened.
@@ -92,4 +94,79 @@ pub fn open_to_append(host: &HostRuntime, path: &str) -> Result<File, FileFault>
         return Err(FileFault::Changing);
     }
     Ok(file)
+}
+
+/// A call that the system doesn't have for such a file.
+fn unsupported() -> io::Error {
+    ErrorKind::Unsupported.into()
+}
+
+/// Locks a file, and lets it go. If another process has it locked, it can be locked.
+fn lock_once(file: &File) -> io::Result<()> {
+    match file.try_lock() {
+        Ok(()) | Err(TryLockError::WouldBlock) => Ok(()),
+        Err(TryLockError::Error(error)) => Err(error),
+    }
+}
+
+/// Makes a file of another name beside the one at this path, locks it, and removes it.
+fn make_beside(host: &HostRuntime, path: &str) -> io::Result<()> {
+    let Ok(beside) = format!(in host.alloc(); "{path}.try") else {
+        return Ok(());
+    };
+    let file = match File::create_new(host, beside.as_str()) {
+        Ok(file) => file,
+        // Another process tries the same.
+        Err(error) if error.kind() == ErrorKind::AlreadyExists => return Ok(()),
+        Err(error) => return Err(error),
+    };
+    let locked = lock_once(&file);
+    fs::remove_file(host, beside.as_str())?;
+    locked
+}
+
+/// Opens a regular file of one name to read, write and lock it; if it isn't there, whether one can be made.
+fn open_once(host: &HostRuntime, path: &str) -> io::Result<()> {
+    let file = match File::options().read(true).write(true).open(host, path) {
+        Ok(file) => file,
+        Err(error) if error.kind() == ErrorKind::NotFound => {
+            return match is_file_itself(host, path) {
+                Some(_) => Err(unsupported()),
+                None => make_beside(host, path),
+            };
+        }
+        Err(error) => return Err(error),
+    };
+    if file.metadata()?.nlink() != 1 {
+        return Err(unsupported());
+    }
+    lock_once(&file)
+}
+
+/// Whether SQLite left a journal beside the file at this path.
+fn has_journal(host: &HostRuntime, path: &str) -> bool {
+    let Ok(journal) = format!(in host.alloc(); "{path}-journal") else {
+        return false;
+    };
+    match fs::symlink_metadata(host, journal.as_str()) {
+        Ok(found) => !found.is_file() || found.len() > 0,
+        Err(_) => false,
+    }
+}
+
+/// Does what the open of a database did, which failed without a reason, on the file at this path, its log and their folder, and changes nothing. What
+/// fails still is the reason.
+pub fn open_again(host: &HostRuntime, path: &str) -> io::Result<()> {
+    let _folder = File::open(host, folder_of(path))?;
+    open_once(host, path)?;
+    if has_journal(host, path) {
+        return Err(unsupported());
+    }
+    let Ok(log) = format!(in host.alloc(); "{path}-wal") else {
+        return Ok(());
+    };
+    match is_file_itself(host, log.as_str()) {
+        Some(false) => Err(unsupported()),
+        _ => open_once(host, log.as_str()),
+    }
 }

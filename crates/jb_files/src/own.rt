@@ -1,5 +1,6 @@
 //! The files of a job over CSV, of which no two are one.
 
+use crate::folders::folder_of;
 use crate::node::{Node, node_at};
 use std::alloc::{AllocError, Global};
 use std::fs;
@@ -37,20 +38,12 @@ struct Place<'a> {
     name: &'a str,
 }
 
-/// The folder of a path.
-fn folder_of<'a>(path: Path<'a>) -> &'a str {
-    match path.parent() {
-        Some(folder) if !folder.as_str().is_empty() => folder.as_str(),
-        _ => ".",
-    }
-}
-
 impl<'a> Place<'a> {
     fn at(host: &HostRuntime, path: &'a str) -> Place<'a> {
         let named = Path::new(path);
         Place {
             node: node_at(host, path),
-            folder: node_at(host, folder_of(named)),
+            folder: node_at(host, folder_of(path)),
             name: named.file_name().unwrap_or(""),
         }
     }

@@ -1,2 +1,1 @@
 pub mod ClassSets
-pub mod Noting

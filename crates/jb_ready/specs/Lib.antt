@@ -1,5 +1,4 @@
 pub mod Classes
-pub mod Json
+pub mod FaultClasses
 pub mod Lines
 pub mod Notes
-pub mod Refused

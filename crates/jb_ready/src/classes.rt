@@ -1,9 +1,11 @@
 //! Sets of fault classes.
 
-ghost use Rattle.std.specs.Prelude.{◌≡◌, []};
-ghost use Rattle.jb_rules.specs.Decide.{has_class};
+ghost use Rattle.std.specs.Prelude.{◌≡◌, ◌≤◌, [], length};
+ghost use Rattle.jb_base.specs.Limits.{max_classes};
 ghost use Rattle.jb_ready.specs.Classes.{IsSetOf};
+ghost use Rattle.jb_ready.specs.FaultClasses.{is_retried, is_skipped, set_by};
 
+use crate::fault_class::{FaultClass, sets_of};
 use jb_base::ClassId;
 use std::marker::Model;
 
@@ -45,11 +47,22 @@ impl Classes {
         Classes { bits }
     }
 
-    /// Whether the class is in the set.
-    pub fn contains(self, class: ClassId) -> bool
-        ensures { result ≡ has_class self class }
+    /// Those of a job's classes that are skipped. The first of its list has the number 0.
+    pub fn skipped(classes: &[FaultClass]) -> Classes
+        requires { length classes.now ≤ max_classes }
+        ensures { result ≡ set_by is_skipped classes.now }
     {
-        (self.bits >> class.number()) % 2 == 1
+        let (bits, _) = sets_of(classes);
+        Classes { bits }
+    }
+
+    /// Those of a job's classes that are retried.
+    pub fn retried(classes: &[FaultClass]) -> Classes
+        requires { length classes.now ≤ max_classes }
+        ensures { result ≡ set_by is_retried classes.now }
+    {
+        let (_, bits) = sets_of(classes);
+        Classes { bits }
     }
 
     /// The set as `Rules` take it: one bit for each class, `ClassId::bit`.

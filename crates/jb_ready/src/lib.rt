@@ -1,27 +1,19 @@
 //! Ready parts for your own job, above `jb_artifacts`.
 //!
-//! - `classes`: sets of fault classes, of which a step's rules are made.
-//! - `notes`, `noting_reader`, `noting_processor`, `noting_writer`: artifacts around others; they note the faults that
-//!   those answer.
-//! - `numbered`: a reader over a table of records whose numbers may be too large.
-//! - `lines`, `json_lines`: the records of a text.
-//! - `records_error`: why there are no records.
+//! - `classes`: sets of fault classes, of which a step's rules are made. `fault_class`: the classes of a job, by name.
+//! - `notes`, `noting_reader`, `noting_processor`: artifacts around others; they note the faults that those answer.
+//! - `lines`: the records of a text.
 #![tactic(auto)]
 
 mod classes;
-pub mod json_lines;
+mod fault_class;
 pub mod lines;
 mod notes;
 mod noting_processor;
 mod noting_reader;
-mod noting_writer;
-mod numbered;
-mod records_error;
 
 pub use classes::Classes;
-pub use notes::{Note, Notes, WriteNote};
+pub use fault_class::{Fate, FaultClass, name_of};
+pub use notes::{Note, Notes};
 pub use noting_processor::NotingProcessor;
 pub use noting_reader::NotingReader;
-pub use noting_writer::NotingWriter;
-pub use numbered::table_reader;
-pub use records_error::RecordsError;

@@ -1,7 +1,7 @@
 //! What artifacts that note their faults have noted.
 
 ghost use Rattle.std.specs.Prelude.{◌≡◌, []};
-ghost use Rattle.jb_ready.specs.Notes.{HasLost, HasNoted, NotesCall};
+ghost use Rattle.jb_ready.specs.Notes.{HasNoted, NotesCall};
 
 use jb_base::{ArtifactError, ClassId};
 use std::alloc::Global;
@@ -14,31 +14,24 @@ pub struct Note {
     pub class: ClassId,
 }
 
-/// A write call that answered a fault: the numbers of the records whose results it was given, and the fault's class.
-#[derive(Debug, Drop)]
-pub struct WriteNote {
-    pub numbers: Vec<u64>,
-    pub class: ClassId,
-}
-
 /// Notes, the first one first. Those for which there was no memory are lost, and counted.
 #[derive(Drop)]
-pub struct Notes<N> {
-    kept: Vec<N>,
+pub struct Notes {
+    kept: Vec<Note>,
     lost: u64,
 }
 
-impl<N> Model for Notes<N> {
-    ghost use Rattle.jb_ready.specs.Notes.{NotesOf};
+impl Model for Notes {
+    ghost use Rattle.jb_ready.specs.Notes.{NotesRecord};
 
-    ghost Value = { NotesOf N };
+    ghost Value = { NotesRecord };
 
     ghost view = { λ notes. record { kept = notes.kept.items; lost = notes.lost } };
 }
 
-impl<N> Notes<N> {
+impl Notes {
     /// No notes. Takes no memory.
-    pub fn new(alloc: Global) -> Notes<N>
+    pub fn new(alloc: Global) -> Notes
         ensures { result ≡ record { kept = []; lost = 0 } }
     {
         Notes {
@@ -48,7 +41,7 @@ impl<N> Notes<N> {
     }
 
     /// The notes that were stored.
-    pub fn kept(&self) -> &[N]
+    pub fn kept(&self) -> &[Note]
         ensures { result.now ≡ self.now.kept }
     {
         self.kept.as_slice()
@@ -62,25 +55,14 @@ impl<N> Notes<N> {
     }
 
     /// One more note. It is stored, or lost if memory runs out.
-    pub fn note(&mut self, note: N)
-    where
-        N: Drop,
-        ensures { HasNoted (λ kept. kept ≡ note) self.old self.new }
+    fn note(&mut self, note: Note)
+        ensures { HasNoted note self.old self.new }
     {
         if self.kept.push(note).is_err() {
-            self.lose();
+            self.lost = self.lost.saturating_add(1);
         }
     }
 
-    /// One more note that is lost.
-    pub fn lose(&mut self)
-        ensures { HasLost self.old self.new }
-    {
-        self.lost = self.lost.saturating_add(1);
-    }
-}
-
-impl Notes<Note> {
     /// Notes the answer to a call for this record, if it is a fault.
     pub fn note_call<A>(&mut self, number: u64, answer: &Result<A, ArtifactError>)
         ensures { NotesCall answer.now number self.old self.new }

@@ -6,7 +6,7 @@ ghost use Rattle.jb_artifacts.specs.Processor.{process_fault, after_process};
 ghost use Rattle.jb_artifacts.specs.Writer.{numbered};
 ghost use Rattle.jb_ready.specs.Notes.{NotesCall};
 
-use crate::notes::{Note, Notes};
+use crate::notes::Notes;
 use jb_artifacts::{Item, ItemProcessor, PackedResults, PackingProcessor};
 use jb_base::ArtifactError;
 
@@ -14,7 +14,7 @@ use jb_base::ArtifactError;
 #[derive(Drop)]
 pub struct NotingProcessor<P> {
     pub inner: P,
-    pub notes: Notes<Note>,
+    pub notes: Notes,
 }
 
 impl<P: ItemProcessor> ItemProcessor for NotingProcessor<P> {

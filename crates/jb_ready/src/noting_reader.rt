@@ -5,7 +5,7 @@ ghost use Rattle.jb_artifacts.specs.Answers.{IfFault, IfNoMemory};
 ghost use Rattle.jb_artifacts.specs.Reader.{reader_end, opened, record_at, read_fault, after_read};
 ghost use Rattle.jb_ready.specs.Notes.{NotesCall};
 
-use crate::notes::{Note, Notes};
+use crate::notes::Notes;
 use jb_artifacts::{Item, ItemReader, LendingReader};
 use jb_base::ArtifactError;
 
@@ -13,7 +13,7 @@ use jb_base::ArtifactError;
 #[derive(Drop)]
 pub struct NotingReader<R> {
     pub inner: R,
-    pub notes: Notes<Note>,
+    pub notes: Notes,
 }
 
 impl<R: ItemReader> ItemReader for NotingReader<R> {

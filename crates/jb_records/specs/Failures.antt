@@ -6,7 +6,7 @@ use Rattle.jb_base.specs.Rules.{RulesRecord}
 use Rattle.jb_base.specs.declared.class.ClassId.{ClassId}
 use Rattle.jb_chunk.specs.Block.{choice_at}
 use Rattle.jb_ready.specs.declared.notes.Note.{Note}
-use Rattle.jb_ready.specs.Notes.{NotesOf}
+use Rattle.jb_ready.specs.Notes.{NotesRecord}
 use Rattle.jb_rules.specs.declared.choice.Choice.{Choice}
 use Rattle.jb_rules.specs.declared.choice.Choice.TheVariants.{Skip, Fail}
 use Rattle.jb_rules.specs.declared.row.Row.{Row}
@@ -59,10 +59,10 @@ AreFailures f rules item_count records rows failures = Pairwise (IsFailure f rul
 -- ---- THE FAULT THAT WAS MET LAST
 
 -- the last one of these notes, if none was lost
-abbrev pub last_fault : NotesOf Note → Option Note
+abbrev pub last_fault : NotesRecord → Option Note
 last_fault notes = if nat_eq notes.lost 0 then slice_get notes.kept (length notes.kept - 1) else None
 
 -- that of the partition of this number
-abbrev pub fault_noted : {A : Type 0} → List (ℕ × A) → (partition : ℕ) → (notes : A → NotesOf Note) → Option Note
+abbrev pub fault_noted : {A : Type 0} → List (ℕ × A) → (partition : ℕ) → (notes : A → NotesRecord) → Option Note
 fault_noted [] partition notes = None
 fault_noted (a ∷ others) partition notes = if nat_eq a.0 partition then last_fault (notes a.1) else fault_noted others partition notes

@@ -30,7 +30,7 @@ pub struct FailedPartition {
 }
 
 /// The fault that was noted last, if no note was lost.
-fn last_fault(notes: &Notes<Note>) -> Option<Note>
+fn last_fault(notes: &Notes) -> Option<Note>
     ensures { result ≡ last_fault notes.now }
 {
     if notes.lost() > 0 {

@@ -1,9 +1,8 @@
 -- The records of a stream of CSV or of lines, and records of CSV in one (RFC 4180, as the kit's `csv` reads and writes it). Records may
 -- differ in their number of fields.
-use Rattle.std.specs.Prelude.{ℕ, ◌≡◌, ◌++◌, true, false, List, Option, Some, length, map}
+use Rattle.std.specs.Prelude.{ℕ, ◌≡◌, ◌++◌, Bool, true, false, List, Option, Some, length, map}
 use Rattle.std.specs.Bool.{MatchBool}
 use Rattle.std.specs.Io.Iter.{u64_saturate}
-use Rattle.std.specs.Io.KnownBytes.{Appends}
 use Rattle.std.specs.List.{concat}
 use Rattle.csv.specs.Reading.{AreRecords, strip_bom}
 use Rattle.csv.specs.Writing.{default_writer, fields_written, has_written, row_text, text_written, with_delimiter, with_flexible, writer_setup}
@@ -11,11 +10,10 @@ use Rattle.csv.specs.declared.parser.Config.{Config}
 use Rattle.csv.specs.declared.parser.State.TheVariants as st
 use Rattle.csv.specs.declared.writer.Writer.{Writer}
 use Rattle.csv.specs.declared.writer.WriterBuilder.{WriterBuilder}
-use Rattle.jb_rows.specs.Answers.{Answer, all_results}
 use Rattle.jb_rows.specs.Bytes.{line_after, marks_config}
 use Rattle.jb_rows.specs.Fields.{Fields}
 use Rattle.jb_rows.specs.Source.{unread}
-use Rattle.jb_rows.specs.Texts.{AreFieldsOf, AreFirst, AreRowsOf, config_of, copied_header, header_of}
+use Rattle.jb_rows.specs.Texts.{AreFieldsOf, AreFirst, config_of, header_of}
 use Rattle.jb_rows.specs.declared.rows_options.RowsOptions.{RowsOptions}
 use Rattle.jb_rows.specs.declared.rows_reader.RowsReader.{RowsReader}
 use Rattle.jb_rows.specs.declared.text_reader.TextReader.{TextReader}
@@ -47,6 +45,17 @@ HasGivenRows options remaining rows text records =
 -- the header row that the reader keeps, if the text has one
 abbrev pub kept_header : {R : Type 0} → RowsReader R → List Fields
 kept_header rows = rows.header
+
+-- the stream below
+abbrev pub stream_of : {R : Type 0} → RowsReader R → R
+stream_of rows = rows.reader.source.stream
+
+-- it has come to the end of the text, and there the last record had no line end
+abbrev pub is_over : {R : Type 0} → RowsReader R → Bool
+is_over rows = rows.is_done
+
+abbrev pub ends_open : {R : Type 0} → RowsReader R → Bool
+ends_open rows = rows.is_open
 
 -- the lines in which the records begin that the reader gave last
 abbrev pub lines_of : {R : Type 0} → RowsReader R → List ℕ
@@ -80,11 +89,3 @@ IsBetweenRows delimiter rows = IsBetween delimiter rows.writer
 
 abbrev pub rows_written : {W : Type 0} → (contents : W → Option (List ℕ)) → RowsWriter W → Option (List ℕ)
 rows_written contents rows = text_written contents rows.writer
-
--- ---- BOTH
-
--- WHAT WAS WRITTEN IS THE HEADER ROW, IF IT IS COPIED, AND THE RESULTS OF ALL RECORDS OF THE TEXT, each a line, in order
-pub record AreAllDone (f : Fields → Answer) (options : RowsOptions) (text : List ℕ) (old new : Option (List ℕ)) : Type 0 where
-  pub records : List Fields
-  pub read : AreRowsOf options text records
-  pub written : Appends old new (csv_rows options.delimiter (copied_header options text ++ all_results f records))

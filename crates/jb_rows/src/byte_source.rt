@@ -29,6 +29,13 @@ impl<R: Read> ByteSource<R> {
         }
     }
 
+    /// The stream below.
+    pub(crate) fn stream(&self) -> &R
+        ensures { result.now ≡ self.now.stream }
+    {
+        &self.stream
+    }
+
     /// Reads more bytes if none is at hand, and says whether one is. Only at the end of the text is none at hand.
     pub(crate) fn fill(&mut self) -> Result<bool>
         ensures begun { OnOk result (self.new.is_begun ≡ true) }

@@ -8,7 +8,7 @@ ghost use Rattle.csv.specs.declared.parser.Config.{Config};
 ghost use Rattle.jb_rows.specs.Fields.{Fields, packed};
 ghost use Rattle.jb_rows.specs.Places.{AreLinesFrom, BeginsAt, BeginsIn};
 ghost use Rattle.jb_rows.specs.Refusals.{IfTooLong};
-ghost use Rattle.jb_rows.specs.Streams.{HasGivenRows, HasRead, kept_header, lines_of, longest_of};
+ghost use Rattle.jb_rows.specs.Streams.{HasGivenRows, HasRead, ends_open, is_over, kept_header, lines_of, longest_of, stream_of};
 ghost use Rattle.jb_rows.specs.Texts.{AreFieldsOf, AreFirstFieldsOf, AreRowsOf, IsAfter, IsLongAfter, IsTooLongAfter, config_of, first_record, header_of};
 ghost use Rattle.jb_rows.specs.declared.header.Header.TheVariants as hd;
 ghost use Rattle.jb_rows.specs.declared.rows_options.RowsOptions.{RowsOptions};
@@ -30,6 +30,8 @@ pub struct RowsReader<R> {
     header: Rows,
     given: u64,
     is_done: bool,
+    /// The text ends within its last record, which has no line end.
+    is_open: bool,
     row: RowBuilder,
     field: Vec<u8>,
     /// The line in which the record in `row` begins.
@@ -81,6 +83,7 @@ impl<R: Read> RowsReader<R> {
             header: Rows::new(alloc),
             given: 0,
             is_done: false,
+            is_open: false,
             row: RowBuilder::new(alloc),
             field: Vec::new(alloc),
             line: 0,
@@ -151,6 +154,7 @@ impl<R: Read> RowsReader<R> {
             Err(error) => return Err(error),
         };
         self.is_done = is_last;
+        self.is_open = is_last;
         Ok(true)
     }
 
@@ -211,6 +215,29 @@ impl<R: Read> RowsReader<R> {
             self.lines.push(self.line)?;
         }
         Ok(true)
+    }
+
+    /// The stream, of which so much is read.
+    pub fn stream(&self) -> &R
+        ensures { result.now ≡ stream_of self.now }
+    {
+        self.reader.stream()
+    }
+
+    /// Whether the end of the stream was found: a read gave no byte. Then the records that were given are all.
+    pub fn is_over(&self) -> bool
+        ensures over { result ≡ is_over self.now }
+        ensures all { result ≡ true → (options : RowsOptions) (text : List ℕ) (records : List Fields) → HasGivenRows options R.remaining self.now text records
+            → AreRowsOf options text records }
+    {
+        self.is_done
+    }
+
+    /// Whether the stream ended within the last record or header row, before its line end.
+    pub fn ends_open(&self) -> bool
+        ensures { result ≡ ends_open self.now }
+    {
+        self.is_open
     }
 
     /// The line in which each record begins that `next_rows` gave last, the first line being 1. A line ends at a line feed.

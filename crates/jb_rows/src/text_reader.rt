@@ -49,6 +49,13 @@ impl<R: Read> TextReader<R> {
         }
     }
 
+    /// The stream below.
+    pub(crate) fn stream(&self) -> &R
+        ensures { result.now ≡ self.now.source.stream }
+    {
+        self.source.stream()
+    }
+
     /// The line of the next byte.
     pub(crate) fn line(&self) -> u64
         ensures { result ≡ self.now.line }

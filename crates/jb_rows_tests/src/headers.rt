@@ -1,103 +1,78 @@
 //! Texts with a header row.
 
-ghost use Rattle.jb_rows.specs.Author.{field_at};
-ghost use Rattle.jb_rows_tests.specs.First.{first_alone};
-
 use crate::longest::EIGHT;
-use jb_rows::{
-    Header, Outcome, Row, RowBuilder, RowFunction, Rows, RowsError, RowsOptions, RowsReader,
-    run_rows,
-};
-use std::alloc::{AllocError, Global};
+use crate::texts::gives;
+use jb_rows::{Header, Rows, RowsError, RowsOptions, RowsReader};
+use std::alloc::Global;
 
-/// Texts, and what is written for each: without a header row, with one that is skipped, and with one that is copied. The result of a
-/// record is its first field alone. Python's `csv` gives these records and lines.
-const TEXTS: [(&str, &str, &str, &str); 8] = [
-    ("", "", "", ""),
-    ("\n", "", "", ""),
+/// Texts; their records, with a `;` between fields and a bar after each; those after the header row; and both as lines of CSV. Python's
+/// `csv` gives these records and lines.
+const TEXTS: [(&str, &str, &str, &str, &str); 8] = [
+    ("", "", "", "", ""),
+    ("\n", "", "", "", ""),
     (
         "name,hours\nann,3\nbob,4\n",
-        "name\nann\nbob\n",
-        "ann\nbob\n",
-        "name,hours\nann\nbob\n",
+        "name;hours|ann;3|bob;4|",
+        "ann;3|bob;4|",
+        "name,hours\nann,3\nbob,4\n",
+        "ann,3\nbob,4\n",
     ),
     (
         "name,hours\r\nann,3\r\n",
-        "name\nann\n",
-        "ann\n",
-        "name,hours\nann\n",
+        "name;hours|ann;3|",
+        "ann;3|",
+        "name,hours\nann,3\n",
+        "ann,3\n",
     ),
     (
         "\"na\nme\",\"a,b\"\nann,3\n\"bo\nb\",4\n",
-        "\"na\nme\"\nann\n\"bo\nb\"\n",
-        "ann\n\"bo\nb\"\n",
-        "\"na\nme\",\"a,b\"\nann\n\"bo\nb\"\n",
+        "na\nme;a,b|ann;3|bo\nb;4|",
+        "ann;3|bo\nb;4|",
+        "\"na\nme\",\"a,b\"\nann,3\n\"bo\nb\",4\n",
+        "ann,3\n\"bo\nb\",4\n",
     ),
-    ("name,hours", "name\n", "", "name,hours\n"),
-    ("\n\r\nname\nann\n", "name\nann\n", "ann\n", "name\nann\n"),
-    ("\"\",x\nann\n", "\"\"\nann\n", "ann\n", ",x\nann\n"),
+    ("name,hours", "name;hours|", "", "name,hours\n", ""),
+    (
+        "\n\r\nname\nann\n",
+        "name|ann|",
+        "ann|",
+        "name\nann\n",
+        "ann\n",
+    ),
+    ("\"\",x\nann\n", ";x|ann|", "ann|", ",x\nann\n", "ann\n"),
 ];
 
-/// The first field of each record is its result.
-struct FirstField;
-
-impl RowFunction for FirstField {
-    ghost answer = { λ _ fields. first_alone (field_at fields 0) };
-
-    fn process(&self, row: &Row, built: &mut RowBuilder) -> Result<Outcome, AllocError> {
-        match row.get(0) {
-            Some(field) => {
-                built.push(field)?;
-                Ok(Outcome::Given)
-            }
-            None => Ok(Outcome::Filtered),
-        }
-    }
-}
-
-/// Commas, no record too long, and this header row.
-fn options(header: Header) -> RowsOptions {
-    RowsOptions {
+/// Whether a text with such a header row has these records after it, by slices of so many, and these lines are written. If a request for
+/// memory is refused, it is at the second call.
+fn gives_with(
+    alloc: Global,
+    header: Header,
+    text: &str,
+    slice: usize,
+    records: &str,
+    lines: &str,
+) -> bool {
+    let options = RowsOptions {
         header,
         ..RowsOptions::CSV
-    }
-}
-
-/// Whether these lines are written, of a text with such a header row, by slices of so many records.
-fn writes(alloc: Global, header: Header, text: &str, most: usize, lines: &str) -> bool {
-    if most == 0 {
-        return false;
-    }
-    match run_rows(
-        alloc,
-        &options(header),
-        &FirstField,
-        most,
-        text.as_bytes(),
-        Vec::new(alloc),
-    ) {
-        Ok(written) => written.as_slice() == lines.as_bytes(),
-        Err(_) => false,
-    }
-}
-
-/// The same. If a request for memory is refused, it is at the second call.
-fn writes_at_last(alloc: Global, header: Header, text: &str, most: usize, lines: &str) -> bool {
-    writes(alloc, header, text, most, lines) || writes(alloc, header, text, most, lines)
+    };
+    let (text, records, lines) = (text.as_bytes(), records.as_bytes(), lines.as_bytes());
+    gives(alloc, &options, text, slice, records, lines)
+        || gives(alloc, &options, text, slice, records, lines)
 }
 
 /// A header row is left out of the records, and written first if it is copied, whatever the size of a slice.
 #[test]
 fn header_rows_are_skipped_or_copied(rt: HostRuntime) {
     let alloc = rt.alloc();
-    for (text, plain, skipped, copied) in TEXTS {
-        for most in [1, 2, 7] {
-            let none = writes_at_last(alloc, Header::None, text, most, plain);
-            assert!(rt; none, "{text:?} by {most}");
-            let skips = writes_at_last(alloc, Header::Skipped, text, most, skipped);
-            assert!(rt; skips, "{text:?} by {most}, skipped");
-            let copies = writes_at_last(alloc, Header::Copied, text, most, copied);
-            assert!(rt; copies, "{text:?} by {most}, copied");
+    for (text, all, records, all_lines, lines) in TEXTS {
+        for slice in [1, 2, 7] {
+            let none = gives_with(alloc, Header::None, text, slice, all, all_lines);
+            assert!(rt; none, "{text:?} by {slice}");
+            let skips = gives_with(alloc, Header::Skipped, text, slice, records, lines);
+            assert!(rt; skips, "{text:?} by {slice}, skipped");
+            let copies = gives_with(alloc, Header::Copied, text, slice, records, all_lines);
+            assert!(rt; copies, "{text:?} by {slice}, copied");
         }
     }
 }

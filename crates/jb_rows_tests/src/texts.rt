@@ -1,6 +1,6 @@
 //! What texts of CSV and of lines are read into, and written as.
 
-use jb_rows::{Row, Rows, RowsError, RowsOptions, RowsReader, RowsWriter};
+use jb_rows::{Row, Rows, RowsError, RowsOptions, RowsReader, RowsWriter, copy_header};
 use std::alloc::{AllocError, Global};
 
 /// Texts; their records, with a `;` between fields and a bar after each record; and the records as lines of CSV. The second and the
@@ -87,7 +87,8 @@ pub(crate) fn show(rows: &Rows, shown: &mut Vec<u8>) -> Result<(), AllocError> {
     Ok(())
 }
 
-/// Reads a text by slices of so many records, shows its records after `shown`, and gives them as lines of CSV.
+/// Reads a text by slices of so many records, shows its records after `shown`, and gives them as lines of CSV, after the header row if it
+/// is copied.
 fn read_and_write(
     alloc: Global,
     options: &RowsOptions,
@@ -97,6 +98,7 @@ fn read_and_write(
 ) -> Result<Vec<u8>, RowsError> {
     let mut reader = RowsReader::new(alloc, options, text)?;
     let mut writer = RowsWriter::new(alloc, options, Vec::new(alloc));
+    copy_header(options, &reader, &mut writer)?;
     let mut rows = Rows::new(alloc);
     for _ in 0..u64::MAX {
         let more = reader.next_rows(&mut rows, slice)?;
@@ -110,7 +112,7 @@ fn read_and_write(
 }
 
 /// Whether a text has these records and these lines. If a request for memory is refused, it is at the second call.
-fn gives(
+pub(crate) fn gives(
     alloc: Global,
     options: &RowsOptions,
     text: &[u8],

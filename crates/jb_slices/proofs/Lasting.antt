@@ -9,5 +9,3 @@ next_has job all number has full = grind (arith, length-take, length-drop)
 pub last-is : (items slice_length : ℕ) → 0 < slice_length → (job : Job) (all : List (List ℕ)) → job.slice_length ≡ slice_length → length all ≡ items
     → IsLastSlice job all (items / slice_length)
 last-is items n some job all size count = grind (arith, mod-add-div', length-take, length-drop)
-
-pub ruleset lasting = (last-is)

@@ -1,10 +1,10 @@
 -- What the rules decide of a slice.
-use Rattle.std.proofs.Common.{◌≡◌, ℕ, suc, ◌-◌, ◌<◌, List, [], ◌∷◌, length, take, drop, true, refl, arith, subst, ◌⊎◌, inl, inr}
-use Rattle.std.{proofs.lemmas.List.{drop_all, take_all}, proofs.lemmas.Option.same_Some}
+use Rattle.std.proofs.Common.{◌≡◌, ℕ, suc, ◌-◌, List, [], ◌∷◌, length, drop, true, refl, arith, ◌⊎◌, inl, inr}
+use Rattle.std.proofs.lemmas.List.{drop_all, take_all}
 use Rattle.jb_base.{specs.Rules.RulesRecord, specs.declared.range.Range.Range}
 use Rattle.jb_mapper.specs.EvenCover.{even_ranges}
-use Rattle.jb_slices.specs.{Checkpoint.{Begins, Checkpoint, GoesOn, Progress}, Function.{Fault, Function, ItemsPass}, Job.Job, Partitions.{AreFinished, ArePartitionsSoFar, HasFailed, IsStop, ranges_of}, Passing.RangesPass, Slice.{Follow, Functions, IsStateSoFar, IsSliceSoFar, SliceState, led, next, slice_state, start}, SliceLaws.{FailedSlicesDont, StopsAreOne, WholeSlicesPass}}
-use Rattle.jb_slices.proofs.{Faults.{items-pass-front, pass-none}, Having.own-whole, Lists.take-less, Raising.ranges}
+use Rattle.jb_slices.specs.{Checkpoint.{Begins, Checkpoint, GoesOn, Progress}, Function.Function, Job.Job, Partitions.{AreFinished, ArePartitionsSoFar, HasFailed, ranges_of}, Passing.RangesPass, Slice.{Follow, Functions, IsStateSoFar, IsSliceSoFar, SliceState, led, next, slice_state, start}, SliceLaws.{FailedSlicesDont, WholeSlicesPass}}
+use Rattle.jb_slices.proofs.{Faults.{items-pass-front, pass-none}, Having.own-whole, Raising.ranges}
 
 -- ---- ranges
 
@@ -65,16 +65,3 @@ pub failed : FailedSlicesDont
 failed job functions limits number items all w pass =
     let standing = stands job functions number items all w.so_far w.failed in
     failed-dont _ _ _ 0 items _ standing.so_far w.failed (rw (← w.limits_are, ← standing.ranges) at pass)
-
--- ---- one fault
-
-not-earlier : (f : Function) (rules : RulesRecord) (first : ℕ) (own : List (List ℕ)) (fault other : Fault) → (s : IsStop f rules first own fault) → (t : IsStop f rules first own other)
-    → s.before < t.before → ⊥
-not-earlier f rules first own fault other s t less = s.fails (subst (λ (xs : List (List ℕ)). ItemsPass f rules xs) (take-less (suc s.before) t.before own (omega (arith, less))) (items-pass-front f rules (suc s.before) (take t.before own) t.passed))
-
-alike : (f : Function) (rules : RulesRecord) (first : ℕ) (own : List (List ℕ)) (fault other : Fault) → (s : IsStop f rules first own fault) → (t : IsStop f rules first own other)
-    → s.before ≡ t.before → fault ≡ other
-alike f rules first own fault other s t e = grind (arith, same_Some)
-
-pub one_stop : StopsAreOne
-one_stop f rules first own fault other s t = grind (arith, alike f rules first own fault other s t, not-earlier f rules first own fault other s t, not-earlier f rules first own other fault t s)

@@ -2,7 +2,7 @@
 use Rattle.std.proofs.Common.{ℕ, ◌-◌, ◌≤◌, List, [], ◌∷◌, length, take, drop, arith, rules}
 use Rattle.std.specs.Prelude.{Option, MatchOption, ⊤}
 use Rattle.jb_base.specs.declared.range.Range.{Range}
-use Rattle.jb_slices.specs.{Function.{Function, fault_classes}, Job.{AreRaised, Classes, IsRaised, ItemCount, Job, Limits, Name, Partitions, SliceLength, rules_of, slice_at}, LimitLaws.{PartsMakeAnIdentity, RaisedJobsStayWhole, RaisedLimitsPass, RaisedLimitsPassAll}, Passing.RangesPass}
+use Rattle.jb_slices.specs.{Function.{Function, fault_classes}, Job.{AreRaised, IsRaised, Job, Limits, rules_of, slice_at}, LimitLaws.{RaisedJobsStayWhole, RaisedLimitsPass, RaisedLimitsPassAll}, Passing.RangesPass}
 
 pub still-few : (before after : Option ℕ) (n : ℕ) → IsRaised before after → MatchOption before ⊤ (λ l. n ≤ l) → MatchOption after ⊤ (λ l. n ≤ l)
 still-few before after n raised few = grind arith
@@ -27,6 +27,3 @@ pass_all job before after f items raised p = record { each = λ k. ranges job be
 
 pub whole : RaisedJobsStayWhole
 whole job functions before after items folder raised w = record { last = w.last; is_last = w.is_last; whole = λ k low. (let s = w.whole k low in let more = raised-twice _ before after s.raised raised in search rules); few = still-few before.job_skips after.job_skips _ raised.job_skips w.few }
-
-pub identity : PartsMakeAnIdentity
-identity job other parts = λ i. record { name = parts Name i; slice_length = parts SliceLength i; partitions = parts Partitions i; item_count = parts ItemCount i; classes = parts Classes i }

@@ -1,5 +1,5 @@
 -- What comes of a job's checkpoints.
-use Rattle.std.specs.Prelude.{ℕ, suc, ◌≡◌, ◌≤◌, ◌⊎◌, List, [], if◌then◌else◌, nat_eq, take}
+use Rattle.std.specs.Prelude.{ℕ, suc, ◌≡◌, ◌⊎◌, List, if◌then◌else◌, nat_eq, take}
 use Rattle.jb_slices.specs.Checkpoint.{Checkpoint}
 use Rattle.jb_slices.specs.Folder.{AreWholeBefore, Folder, HaveStamp, IsJobEnded, IsJobFailed, IsJobSoFar, IsJobWhole, results_before, skips_before}
 use Rattle.jb_slices.specs.Function.{all_results, faults_from}
@@ -65,10 +65,3 @@ SlicesAreApart =
     (job : Job) (functions : Functions) (items : List (List ℕ)) (folder : Folder) (number : ℕ) (all : List Checkpoint)
     → IsJobSoFar job functions items folder → HasSlice job items number → IsSliceSoFar job functions number (slice_at job items number) all
     → IsJobSoFar job functions items (replaced folder number all)
-
--- THE LAW: if no slice from this number on has a checkpoint, the items of these slices may change
-abbrev pub LaterItemsDontMatter : Type 0
-LaterItemsDontMatter =
-    (job : Job) (functions : Functions) (items others : List (List ℕ)) (folder : Folder) (count : ℕ)
-    → IsJobSoFar job functions items folder → ((k : ℕ) → count ≤ k → folder k ≡ [])
-    → take (first_of job count) items ≡ take (first_of job count) others → IsJobSoFar job functions others folder

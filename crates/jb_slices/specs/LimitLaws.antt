@@ -1,9 +1,9 @@
--- What a raised limit keeps, and what parts make an identity.
-use Rattle.std.specs.Prelude.{◌≡◌, List, ℕ}
+-- What a raised limit keeps.
+use Rattle.std.specs.Prelude.{List, ℕ}
 use Rattle.jb_base.specs.declared.class.ClassId.{ClassId}
 use Rattle.jb_slices.specs.Folder.{Folder, IsJobWhole}
 use Rattle.jb_slices.specs.Function.{Function, Pass}
-use Rattle.jb_slices.specs.Job.{AreRaised, HaveInCommon, IdentityPart, Job, Limits, rules_of}
+use Rattle.jb_slices.specs.Job.{AreRaised, Job, Limits, rules_of}
 use Rattle.jb_slices.specs.Passing.{AllPass}
 use Rattle.jb_slices.specs.Slice.{Functions}
 
@@ -22,7 +22,3 @@ abbrev pub RaisedJobsStayWhole : Type 0
 RaisedJobsStayWhole =
     (job : Job) (functions : Functions) (before after : Limits) (items : List (List ℕ)) (folder : Folder)
     → AreRaised before after → IsJobWhole job functions before items folder → IsJobWhole job functions after items folder
-
--- THE LAW: two jobs with each part in common are one; so a different job differs in a part that can be named
-abbrev pub PartsMakeAnIdentity : Type 0
-PartsMakeAnIdentity = (job other : Job) → ((part : IdentityPart) → HaveInCommon part job other) → job ≡ other

@@ -1,8 +1,8 @@
--- WHY A SLICE'S LIST IS REFUSED, by its header, and by the limits of its last checkpoint.
+-- WHY A SLICE'S LIST IS REFUSED, by its header.
 use Rattle.std.specs.Prelude.{ℕ, ◌≢◌, List, ◌∷◌, Contains}
 use Rattle.jb_slices.specs.Checkpoint.{Begins, Checkpoint, Header, digest_of}
-use Rattle.jb_slices.specs.Job.{AreRaised, HaveInCommon, IdentityPart, Job, Limits}
-use Rattle.jb_slices.specs.Slice.{Functions, IsSliceSoFar, slice_state}
+use Rattle.jb_slices.specs.Job.{HaveInCommon, IdentityPart, Job}
+use Rattle.jb_slices.specs.Slice.{Functions, IsSliceSoFar}
 
 -- the header is of another job, which differs in this part
 abbrev pub IsOtherJob : Job → IdentityPart → Header → Type 0
@@ -19,10 +19,6 @@ HasOtherItems items header = header.digest ≢ digest_of items
 -- of a stamp that is neither the call's nor one of those that the call accepts
 abbrev pub HasOtherStamp : (stamp : List ℕ) → (kept : List (List ℕ)) → Header → Type 0
 HasOtherStamp stamp kept header = Contains (stamp ∷ kept) header.stamp → ⊥
-
--- a limit is lower than in the list's last checkpoint
-abbrev pub HasLoweredLimit : Limits → List Checkpoint → Type 0
-HasLoweredLimit limits all = AreRaised (slice_state all).limits limits → ⊥
 
 -- THE LAW: a slice so far of this job, with this number and these items, is refused for none of the first three reasons
 abbrev pub OwnSlicesArentRefused : Type 0

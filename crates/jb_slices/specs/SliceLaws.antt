@@ -1,10 +1,8 @@
 -- What comes of a slice's checkpoints.
 use Rattle.std.specs.Prelude.{ℕ, ◌≡◌, List, [], ◌∷◌, ◌++◌}
-use Rattle.jb_base.specs.Rules.{RulesRecord}
 use Rattle.jb_slices.specs.Checkpoint.{Begins, Checkpoint, Header, digest_of, header_of}
-use Rattle.jb_slices.specs.Function.{Fault, Function, all_results, faults_from}
+use Rattle.jb_slices.specs.Function.{all_results, faults_from}
 use Rattle.jb_slices.specs.Job.{Job, Limits, first_of}
-use Rattle.jb_slices.specs.Partitions.{IsStop}
 use Rattle.jb_slices.specs.Passing.{SlicePasses}
 use Rattle.jb_slices.specs.Slice.{Functions, IsNext, IsSliceFailed, IsSliceSoFar, IsSliceWhole, slice_state, results_in, skips_in, stamp_of}
 
@@ -56,9 +54,3 @@ abbrev pub FailedSlicesDont : Type 0
 FailedSlicesDont =
     (job : Job) (functions : Functions) (limits : Limits) (number : ℕ) (items : List (List ℕ)) (all : List Checkpoint)
     → IsSliceFailed job functions limits number items all → SlicePasses job limits (functions (stamp_of all)) items → ⊥
-
--- THE LAW: a partition fails by one fault at most
-abbrev pub StopsAreOne : Type 0
-StopsAreOne =
-    (f : Function) (rules : RulesRecord) (first : ℕ) (own : List (List ℕ)) (fault other : Fault)
-    → IsStop f rules first own fault → IsStop f rules first own other → fault ≡ other

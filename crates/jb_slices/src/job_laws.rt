@@ -1,6 +1,6 @@
 //! What comes of a job's checkpoints. Nothing is done here: the clauses are the laws.
 
-ghost use Rattle.jb_slices.specs.JobLaws.{EndedJobsAreEither, FailedJobsDont, LastSlicesAreOne, LaterItemsDontMatter, SlicesAreApart, WholeJobsHaveAll, WholeJobsHaveSkips, WholeJobsPass, WholeSlicesAreAFront};
+ghost use Rattle.jb_slices.specs.JobLaws.{EndedJobsAreEither, FailedJobsDont, LastSlicesAreOne, SlicesAreApart, WholeJobsHaveAll, WholeJobsHaveSkips, WholeJobsPass, WholeSlicesAreAFront};
 
 /// A whole job has the results of all items, each once and in order, and the faults that it skipped. Those of its first whole slices are a
 /// front of the results.
@@ -27,10 +27,4 @@ pub fn jobs_follow_the_rules()
 #[tactic(auto, using(crate::proofs::Apart::apart))]
 pub fn slices_are_apart()
     ensures { SlicesAreApart }
-{}
-
-/// Items of slices that haven't started may change.
-#[tactic(auto, using(crate::proofs::Apart::agreed))]
-pub fn later_items_dont_matter()
-    ensures { LaterItemsDontMatter }
 {}

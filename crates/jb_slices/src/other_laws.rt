@@ -1,8 +1,8 @@
 //! Raised limits, parts, and the rule of faults. Nothing is done here: the clauses are the laws.
 
-ghost use Rattle.jb_slices.specs.Deciding.{FailsDont, RetriesEnd, SkipsPass};
+ghost use Rattle.jb_slices.specs.Deciding.{FailsDont, SkipsPass};
 ghost use Rattle.jb_slices.specs.Example.{SomeAreSoFar, SomeAreWhole, SomeFail};
-ghost use Rattle.jb_slices.specs.LimitLaws.{PartsMakeAnIdentity, RaisedJobsStayWhole, RaisedLimitsPass, RaisedLimitsPassAll};
+ghost use Rattle.jb_slices.specs.LimitLaws.{RaisedJobsStayWhole, RaisedLimitsPass, RaisedLimitsPassAll};
 ghost use Rattle.jb_slices.specs.PartLaws.{CollectsAreJobs, EachIsInAPart, PartsAreApart};
 
 /// What passed still passes under raised limits, and a whole job stays whole.
@@ -10,12 +10,6 @@ pub fn raised_limits_keep()
     ensures each { RaisedLimitsPass }
     ensures all { RaisedLimitsPassAll }
     ensures whole { RaisedJobsStayWhole }
-{}
-
-/// Jobs that have each part of their identity in common are one.
-#[tactic(auto, using(crate::proofs::Raising::identity))]
-pub fn identities_have_parts()
-    ensures { PartsMakeAnIdentity }
 {}
 
 /// Each slice is in one part, and a collect is a job.
@@ -30,7 +24,6 @@ pub fn parts_cover()
 pub fn choices_are_the_rules()
     ensures skip { SkipsPass }
     ensures fail { FailsDont }
-    ensures end { RetriesEnd }
 {}
 
 /// Such checkpoints exist: those of a whole job, of a failed one, and of one that continues though a slice failed.

@@ -2,7 +2,7 @@
 
 ghost use Rattle.jb_slices.specs.Failures.{EachFailureIsNamed, FailuresAreNamed};
 ghost use Rattle.jb_slices.specs.Refusals.{OwnSlicesArentRefused};
-ghost use Rattle.jb_slices.specs.SliceLaws.{FailedSlicesDont, FrontsAreSoFar, FirstIsHeader, OneMoreFollows, HeadersIdentifySlices, StopsAreOne, WholeSlicesHaveAll, WholeSlicesHaveSkips, WholeSlicesPass};
+ghost use Rattle.jb_slices.specs.SliceLaws.{FailedSlicesDont, FrontsAreSoFar, FirstIsHeader, OneMoreFollows, HeadersIdentifySlices, WholeSlicesHaveAll, WholeSlicesHaveSkips, WholeSlicesPass};
 
 /// A whole slice has the results of all its items, each once and in order, and the faults that it skipped.
 pub fn slices_have_results()
@@ -24,12 +24,10 @@ pub fn headers_identify_slices()
     ensures own { OwnSlicesArentRefused }
 {}
 
-/// A slice is whole only if the items of each partition pass the rules, and fails only if those of some partition don't. A partition fails by
-/// one fault.
+/// A slice is whole only if the items of each partition pass the rules, and fails only if those of some partition don't.
 pub fn slices_follow_the_rules()
     ensures whole { WholeSlicesPass }
     ensures failed { FailedSlicesDont }
-    ensures stop { StopsAreOne }
 {}
 
 /// The list of a slice names the fault by which each failed partition failed.

@@ -14,13 +14,3 @@ pub fn is_last_slice(items: u64, slice_length: u64) -> bool
 {
     items < slice_length
 }
-
-/// The number of the last slice of a job over so many items, the first slice being 0.
-#[must_use]
-#[tactic(auto, using(crate::proofs::Lasting::lasting))]
-pub fn last_slice(items: u64, slice_length: u64) -> u64
-    requires some { 0 < slice_length }
-    ensures last { (job : Job) (all : List (List ℕ)) → job.slice_length ≡ slice_length → length all ≡ items → IsLastSlice job all result }
-{
-    items / slice_length
-}

@@ -11,6 +11,7 @@ use jb_files::hold_closed_streams;
 use jb_ready::{Classes, lines};
 use jb_records::{RecordsEnd, RecordsStep, RecordsStepError, StoppedRun, run_records};
 use jb_rows::{Outcome, Row, RowBuilder, RowFunction, Rows};
+use jb_stack::{AnyAnswer, limits_of, run_apart};
 use std::alloc::{AllocError, Global};
 use std::io::{self, Read, Write};
 use std::process::ExitCode;
@@ -103,22 +104,22 @@ fn run<R: Threads + Wait + Sync>(
     )
 }
 
-fn main(rt: HostRuntime) -> io::Result<ExitCode> {
-    hold_closed_streams(&rt);
-    let alloc = rt.alloc();
+/// The job over the standard streams.
+fn answer<R: Threads + Wait + Sync>(rt: &R, host: &HostRuntime) -> io::Result<ExitCode> {
+    let alloc = host.alloc();
     let mut text = Vec::new(alloc);
-    rt.stdin().read_to_end(&mut text)?;
+    host.stdin().read_to_end(&mut text)?;
     let rows = lines_of(alloc, &text)?;
     let lines = rows.as_list();
-    let end = match run(&rt, alloc, lines) {
+    let end = match run(rt, alloc, lines) {
         Ok(end) => end,
         Err(error) => {
-            eprintln!(rt; "{error}")?;
+            eprintln!(host; "{error}")?;
             return Ok(ExitCode::from(3));
         }
     };
     for skip in &end.skipped(alloc, &Capitals { alloc }, lines)? {
-        eprintln!(rt;
+        eprintln!(host;
             "line {} is skipped, by class {}",
             skip.number,
             skip.class.number()
@@ -126,7 +127,7 @@ fn main(rt: HostRuntime) -> io::Result<ExitCode> {
     }
     for failure in &end.failures {
         if let Some(fault) = failure.fault {
-            eprintln!(rt;
+            eprintln!(host;
                 "partition {} failed at line {}, by class {}",
                 failure.partition,
                 fault.number,
@@ -135,7 +136,7 @@ fn main(rt: HostRuntime) -> io::Result<ExitCode> {
         }
     }
     let results = end.all_results(alloc)?;
-    let mut out = rt.stdout();
+    let mut out = host.stdout();
     for index in 0..results.len() {
         if let Some(line) = Row::of(results.at(index)).get(0) {
             out.write_all(line)?;
@@ -147,4 +148,16 @@ fn main(rt: HostRuntime) -> io::Result<ExitCode> {
     } else {
         1
     }))
+}
+
+fn main(rt: HostRuntime) -> io::Result<ExitCode> {
+    hold_closed_streams(&rt);
+    let work = move || answer(&rt, &rt);
+    match run_apart(&rt, &limits_of(&rt), AnyAnswer, work) {
+        Some(answer) => answer,
+        None => {
+            eprintln!(rt; "out of memory")?;
+            Ok(ExitCode::from(4))
+        }
+    }
 }

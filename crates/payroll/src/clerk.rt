@@ -4,8 +4,8 @@ ghost use Rattle.std.specs.Prelude.{◌≡◌};
 ghost use Rattle.payroll.specs.Sheets.{broken_class, overlong_class, pay_slip};
 
 use crate::sheet::{is_overlong, named_pay};
-use jb_answers::{Fate, FaultClass};
 use jb_base::ClassId;
+use jb_ready::{Fate, FaultClass};
 use jb_rows::{Outcome, Row, RowBuilder, RowFunction};
 use std::alloc::AllocError;
 

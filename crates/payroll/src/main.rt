@@ -22,6 +22,7 @@ use jb_csv_job::{
     close_list, exit_code, open_list, ready_folder, run_csv_job,
 };
 use jb_rows::RowsOptions;
+use jb_stack::{AnyAnswer, limits_of, run_apart};
 use std::io::{Read, Stdin, Write};
 use std::marker::Brand;
 use std::process::ExitCode;
@@ -115,13 +116,24 @@ fn answer<T: Threads + Wait + Clock + Eprint + Host + Copy + Send + Sync + 'stat
     Ok(end)
 }
 
-fn main(rt: HostRuntime) -> ExitCode {
-    match asked_of(&rt, &JOB, None) {
+/// The exit status of what the command line asks for.
+fn status_of<T: Threads + Wait + Clock + Eprint + Host + Copy + Send + Sync + 'static>(
+    rt: &T,
+) -> ExitCode {
+    match asked_of(rt, &JOB, None) {
         Ok(Request::Job(asked)) => {
-            let answer = answer(&rt, &asked);
-            exit_code(&rt, &JOB, asked.folder.as_str(), answer)
+            let answer = answer(rt, &asked);
+            exit_code(rt, &JOB, asked.folder.as_str(), answer)
         }
         Ok(Request::Said) => ExitCode::SUCCESS,
-        Err(failure) => exit_code(&rt, &JOB, "", Err(failure)),
+        Err(failure) => exit_code(rt, &JOB, "", Err(failure)),
+    }
+}
+
+fn main(rt: HostRuntime) -> ExitCode {
+    let work = move || status_of(&rt);
+    match run_apart(&rt, &limits_of(&rt), AnyAnswer, work) {
+        Some(status) => status,
+        None => exit_code(&rt, &JOB, "", Err(CsvJobError::Memory)),
     }
 }

@@ -8,8 +8,9 @@
 mod parcel;
 
 use jb_base::DEFAULT_RETRY_LIMIT;
-use jb_csv_job::{CsvJob, DEFAULT_SLICE_LENGTH, Fate, FaultClass, run_job};
+use jb_csv_job::{CsvJob, CsvJobError, DEFAULT_SLICE_LENGTH, Fate, FaultClass, exit_code, run_job};
 use jb_rows::RowsOptions;
+use jb_stack::{AnyAnswer, limits_of, run_apart};
 use parcel::Postage;
 use std::process::ExitCode;
 
@@ -34,5 +35,9 @@ const JOB: CsvJob<'static> = CsvJob {
 };
 
 fn main(rt: HostRuntime) -> ExitCode {
-    run_job(&rt, &JOB, Postage)
+    let work = move || run_job(&rt, &JOB, Postage);
+    match run_apart(&rt, &limits_of(&rt), AnyAnswer, work) {
+        Some(status) => status,
+        None => exit_code(&rt, &JOB, "", Err(CsvJobError::Memory)),
+    }
 }

@@ -8,9 +8,9 @@ ghost use Rattle.jb_rows.specs.Author.{field_at};
 ghost use Rattle.std.specs.Option.{option_and_then};
 
 use crate::amounts::Amounts;
-use jb_answers::{Fate, FaultClass};
 use jb_base::ClassId;
 use jb_job::{JobError, read_tree};
+use jb_ready::{Fate, FaultClass};
 use jb_rows::numbers::product_of;
 use jb_rows::{Outcome, Row, RowBuilder, RowFunction};
 use serde_json::Value;

@@ -17,10 +17,11 @@ mod run;
 
 use failure::TotalsError;
 use jb_csv_job::{
-    Asked, Host, JobEnd, Output, OwnOption, Request, Watches, asked_of, close_list, exit_code,
-    open_list, ready_folder,
+    Asked, CsvJobError, Host, JobEnd, Output, OwnOption, Request, Watches, asked_of, close_list,
+    exit_code, open_list, ready_folder,
 };
 use jb_rows::{Rows, RowsOptions, RowsWriter};
+use jb_stack::{AnyAnswer, limits_of, run_apart};
 use price_list::read_list;
 use run::{JOB, totals};
 use std::io::Stdin;
@@ -86,13 +87,24 @@ fn exit_of<T: Eprint + Host>(
     }
 }
 
-fn main(rt: HostRuntime) -> ExitCode {
-    match asked_of(&rt, &JOB, Some(&PRICES)) {
+/// The exit status of what the command line asks for.
+fn status_of<T: Threads + Wait + Clock + Eprint + Host + Copy + Send + Sync + 'static>(
+    rt: &T,
+) -> ExitCode {
+    match asked_of(rt, &JOB, Some(&PRICES)) {
         Ok(Request::Job(asked)) => {
-            let answer = answer(&rt, &asked);
-            exit_of(&rt, asked.folder.as_str(), answer)
+            let answer = answer(rt, &asked);
+            exit_of(rt, asked.folder.as_str(), answer)
         }
         Ok(Request::Said) => ExitCode::SUCCESS,
-        Err(failure) => exit_code(&rt, &JOB, "", Err(failure)),
+        Err(failure) => exit_code(rt, &JOB, "", Err(failure)),
+    }
+}
+
+fn main(rt: HostRuntime) -> ExitCode {
+    let work = move || status_of(&rt);
+    match run_apart(&rt, &limits_of(&rt), AnyAnswer, work) {
+        Some(status) => status,
+        None => exit_code(&rt, &JOB, "", Err(CsvJobError::Memory)),
     }
 }

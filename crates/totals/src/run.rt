@@ -10,8 +10,8 @@ use crate::adding::Adding;
 use crate::failure::TotalsError;
 use jb_base::DEFAULT_RETRY_LIMIT;
 use jb_csv_job::{
-    Asked, CsvJob, CsvJobError, CsvSink, Host, JobEnd, Keeper, Stored, begin_list, end_list,
-    run_slices,
+    Asked, CsvJob, CsvJobError, CsvSink, Host, JobEnd, Keeper, Measured, Stored, begin_list,
+    end_list, run_slices,
 };
 use jb_rows::{Rows, RowsOptions, RowsReader};
 use sales::{Amounts, CLASSES, Pricing};
@@ -68,11 +68,11 @@ fn added<
 {
     let mut job: CsvJob = JOB;
     job.stamp = stamp;
-    let mut reader = RowsReader::new(alloc, &job.options, from)?;
+    let mut reader = RowsReader::new(alloc, &job.options, asked.measured(from))?;
     let mut adding = Adding::new(alloc);
     let pricing = Pricing { prices, alloc };
     let mut listing = begin_list(alloc, &job, asked, &reader, list)?;
-    let end = run_slices::<Pricing, T, H, K, R, Adding, CsvSink<S>>(
+    let end = run_slices::<Pricing, T, H, K, Measured<R>, Adding, CsvSink<S>>(
         rt,
         &job,
         asked,

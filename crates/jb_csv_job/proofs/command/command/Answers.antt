@@ -14,5 +14,7 @@ returns c =
     let fifth = c.in_ok-command-5.ensures ∙ ap (λ a. option a (codes "output")) fourth in
     let sixth = c.in_ok-command-6.ensures ∙ ap (λ a. option a (codes "skipped")) fifth in
     let seventh = c.in_ok-command-7.ensures ∙ ap (λ a. option a (codes "records")) sixth in
-    let eighth = c.in_ok-command-8.ensures ∙ ap (λ a. with_own a own) seventh in
-    subst (λ a. IfOk c.with_folder.result (λ made. app_of made ≡ with_rule a folder_rule)) eighth c.with_folder.ensures
+    let eighth = c.in_ok-command-8.ensures ∙ ap (λ a. option a (codes "bytes")) seventh in
+    let ninth = c.in_ok-command-9.ensures ∙ ap (λ a. option a (codes "sha256")) eighth in
+    let tenth = c.in_ok-command-10.ensures ∙ ap (λ a. with_own a own) ninth in
+    subst (λ a. IfOk c.with_folder.result (λ made. app_of made ≡ with_rule a folder_rule)) tenth c.with_folder.ensures

@@ -1,7 +1,7 @@
-use Rattle.std.{proofs.Common.{◌≡◌, List, [], map, ℕ, Option, Some, take}, proofs.lemmas.List.{take-map}, specs.Prelude.{IsTrue}}
+use Rattle.std.{proofs.Common.{◌≡◌, List, [], map, ℕ, Option, Some, take}, proofs.lemmas.List.{take-map}, specs.Prelude.{IfSome, IsTrue}}
 use Rattle.jb_rows.{proofs.Headers.{copied-is}, specs.Fields.{Fields, packed}, specs.Streams.{HasGivenRows, kept_header}, specs.Texts.{copied_by}}
 use Rattle.jb_slices.specs.{Function.{all_results}, Job.{first_of}, Slice.{Functions}}
-use Rattle.jb_csv_job.specs.{Done.{HasSkipped, IsByRules, IsDoneSoFar, IsJobDone}, Job.{JobRecord, job_record}, Loop.{IfJobResumes}, SliceFiles.{CanResumeJob, LeavesJob}, Sinks.{HasTaken}}
+use Rattle.jb_csv_job.specs.{Done.{HasSkipped, IsByRules, IsDoneSoFar, IsJobDone}, Job.{JobRecord, job_record}, Loop.{IfJobResumes}, Measuring.{reader_of}, SliceFiles.{CanResumeJob, LeavesJob}, Sinks.{HasTaken}}
 use Rattle.jb_csv_job.{specs.Skipped.{IfListed, IsListWritten}, specs.Tasks.{given_by}, proofs.Going.{of-stream}, proofs.Owning.{given-both}, proofs.Writing.{begun-by, given-packed, list-whole, list-written}}
 use Rattle.jb_csv_job.proofs.run.run_csv_job.Goals.{After-run_slices}
 use Rattle.jb_csv_job.proofs.run.run_csv_job.Goals as goal
@@ -10,10 +10,14 @@ module _ (g : _) (c : After-run_slices g) where
   abbrev job : JobRecord
   job = job_record c.args.job.now c.args.asked.now (g.F.RowFunction.answer c.args.function)
 
+  -- what the measured input has to give is what the stream has
+  given : IfSome (g.R.Read.remaining c.args.from) (λ text. HasGivenRows job.options (λ input. g.R.Read.remaining (reader_of input)) c.in_ok-reader.reader text [])
+  given = rw c.measured.ensures.reader at c.in_ok-reader.ensures.given
+
   -- what holds of a text that the stream may have holds of what it has
-  streamed : (P : Functions → Option (List ℕ) → Type 0) → IfJobResumes job g.R.Read.remaining c.in_ok-reader.reader g.H.Stored.log g.H.Stored.db (λ functions bytes. P functions (Some bytes))
+  streamed : (P : Functions → Option (List ℕ) → Type 0) → IfJobResumes job (λ input. g.R.Read.remaining (reader_of input)) c.in_ok-reader.reader g.H.Stored.log g.H.Stored.db (λ functions bytes. P functions (Some bytes))
       → (functions : Functions) → CanResumeJob job functions (g.R.Read.remaining c.args.from) g.H.Stored.log g.H.Stored.db → P functions (g.R.Read.remaining c.args.from)
-  streamed P = of-stream job g.R.Read.remaining c.in_ok-reader.reader g.H.Stored.log g.H.Stored.db (g.R.Read.remaining c.args.from) P c.in_ok-reader.ensures.given
+  streamed P = of-stream job (λ input. g.R.Read.remaining (reader_of input)) c.in_ok-reader.reader g.H.Stored.log g.H.Stored.db (g.R.Read.remaining c.args.from) P given
 
   left : IsTrue (g.K.Keeper.are_clean c.run_slices.new.keeper) → (functions : Functions) → CanResumeJob job functions (g.R.Read.remaining c.args.from) g.H.Stored.log g.H.Stored.db
       → LeavesJob job functions (g.R.Read.remaining c.args.from) (g.K.Keeper.may_leave c.args.keeper.now) (g.K.Keeper.may_leave c.run_slices.new.keeper)
@@ -27,8 +31,8 @@ returns g c =
     let end = c.in_ok-end.end in
     let results = g.W.Write.contents in
     let rows = g.S.Write.contents in
-    let copied = λ (bytes : List ℕ) (given : HasGivenRows job.options g.R.Read.remaining c.in_ok-reader.reader bytes []).
-    copied-is job.options g.R.Read.remaining c.in_ok-reader.reader bytes [] given in
+    let copied = λ (bytes : List ℕ) (given : HasGivenRows job.options (λ input. g.R.Read.remaining (reader_of input)) c.in_ok-reader.reader bytes []).
+    copied-is job.options (λ input. g.R.Read.remaining (reader_of input)) c.in_ok-reader.reader bytes [] given in
     let between = c.new-sink.ensures.between in
     let begun = begun-by results job.options.delimiter c.args.to c.new-sink.result c.write_header.new.self _ between c.new-sink.ensures.nothing c.in_ok-write_header.ensures.written in
     let appended = λ (records : List Fields) (taken : HasTaken results c.write_header.new.self c.run_slices.new.sink (given_by job.task (all_results job.function (map packed records)))).
